@@ -1,0 +1,53 @@
+-- `answer::Answer::number` meets its contract: each arm knows its variant. Assumes nothing.
+use borrow.Author.Needs.{needs}
+use Rattle.answer.proofs.Answer.number.Statement.{statement}
+use Rattle.answer.proofs.Answer.number.Tie as tie
+
+pub number-spec : {M : Type 1} → statement M
+number-spec =
+    tie.close
+    (tie.spec
+    (λ c. search needs)
+    (λ c. search needs)
+    (λ c. search needs)
+    (λ c. search needs)
+    (λ c. search needs)
+    (λ c. search needs)
+    (λ c. search needs)
+    (λ c. search needs)
+    (λ c. search needs)
+    (λ c. search needs)
+    (λ c. search needs)
+    (λ c. search needs)
+    (λ c. search needs)
+    (λ c. search needs)
+    (λ c. search needs)
+    (λ c. search needs)
+    (λ c. search needs)
+    (λ c. search needs)
+    (λ c. search needs)
+    (λ c. search needs)
+    (λ c. search needs)
+    (λ c. search needs)
+    (λ c. record { result = rw (c .enum-told .given .1) })
+    (λ c. record { result = rw (c .enum-told2 .given .1) })
+    (λ c. record { result = rw (c .enum-told3 .given .1) })
+    (λ c. record { result = rw (c .enum-told4 .given .1) })
+    (λ c. record { result = rw (c .enum-told5 .given .1) })
+    (λ c. record { result = rw (c .enum-told6 .given .1) })
+    (λ c. record { result = rw (c .enum-told7 .given .1) })
+    (λ c. record { result = rw (c .enum-told8 .given .1) })
+    (λ c. record { result = rw (c .enum-told9 .given .1) })
+    (λ c. record { result = rw (c .enum-told10 .given .1) })
+    (λ c. record { result = rw (c .enum-told11 .given .1) })
+    (λ c. record { result = rw (c .enum-told12 .given .1) })
+    (λ c. record { result = rw (c .enum-told13 .given .1) })
+    (λ c. record { result = rw (c .enum-told14 .given .1) })
+    (λ c. record { result = rw (c .enum-told15 .given .1) })
+    (λ c. record { result = rw (c .enum-told16 .given .1) })
+    (λ c. record { result = rw (c .enum-told17 .given .1) })
+    (λ c. record { result = rw (c .enum-told18 .given .1) })
+    (λ c. record { result = rw (c .enum-told19 .given .1) })
+    (λ c. record { result = rw (c .enum-told20 .given .1) })
+    (λ c. record { result = rw (c .enum-told21 .given .1) })
+    (λ c. record { result = rw (c .enum-told22 .given .1) }))

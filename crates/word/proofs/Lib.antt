@@ -1,0 +1,4 @@
+pub mod Part
+pub mod Rotation
+pub mod Settled
+pub mod Table

@@ -1,0 +1,24 @@
+-- 64-bit words: rotation (RFC 7693, 2.3) and the little-endian reading of bytes (2.4).
+use Prim.Native.Nat.{ℕ, zero, suc, _+_, _-_, _*_, _/_, _%_, _^_}
+use mathlib.Core.Bool.{cond}
+use mathlib.Core.List.{List, [], _∷_}
+use lib.Dec.{leb}
+use lib.ListN.{length, take, drop}
+
+-- 2.3, x >>> n: the low n bits of the 64-bit word x go to the top
+unfoldable pub rotr : ℕ → ℕ → ℕ
+rotr n x = x / 2 ^ n + (x % 2 ^ n) * 2 ^ (64 - n)
+
+-- 2.4, the number that a list of bytes is, the first byte the lowest
+abbrev pub fromLe : List ℕ → ℕ
+fromLe [] = 0
+fromLe (b ∷ bs) = b + 256 * fromLe bs
+
+-- the word at the eight bytes of s from at on; 0 where s has fewer there
+unfoldable pub wordAt : List ℕ → ℕ → ℕ
+wordAt s at = cond (leb (at + 8) (length s)) (fromLe (take 8 (drop at s))) 0
+
+-- 2.4, the n lowest bytes of x, the lowest first
+abbrev pub toLe : ℕ → ℕ → List ℕ
+toLe zero x = []
+toLe (suc n) x = x % 256 ∷ toLe n (x / 256)
