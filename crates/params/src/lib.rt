@@ -1,0 +1,120 @@
+// Document 01's numbers: the parameters, their limits and the sizes that they give.
+ghost use Rattle.params.specs.Promises.{CostsPromise, CheckPromise, SegmentPromise, LanePromise, BlocksPromise};
+use answer::Answer;
+
+// A configured tag length: absent, or a number.
+pub enum Configured {
+    Absent,
+    Length(u32),
+}
+
+pub struct Params {
+    pub algorithm: u32,
+    pub version: u32,
+    pub memory: u32,
+    pub passes: u32,
+    pub lanes: u32,
+    pub configured: Configured,
+}
+
+impl Params {
+    // Algorithms d, i and id.
+    pub const D: u32 = 0;
+
+    pub const I: u32 = 1;
+
+    pub const ID: u32 = 2;
+
+    pub const V0X10: u32 = 16;
+
+    pub const V0X13: u32 = 19;
+
+    pub const MAX_LANES: u32 = 16;
+
+    pub const MAX_MEMORY: u32 = 1_048_576;
+
+    // A pass has four slices, and at each slice's end the lanes wait for each other.
+    pub const SYNC_POINTS: u32 = 4;
+
+    // Two blocks for each of a lane's segments.
+    pub const MIN_LANE: u32 = 2 * Params::SYNC_POINTS;
+
+    pub const MIN_TAG: u32 = 4;
+
+    // The first of document 01's rows 3 to 7 that holds.
+    pub fn check_costs(lanes: u32, memory: u32, passes: u32) -> Answer
+        ensures { λ r. ⌜ CostsPromise lanes memory passes r ⌝ }
+    {
+        if lanes == 0 {
+            return Answer::ThreadsTooFew;
+        }
+        if Params::MAX_LANES < lanes {
+            return Answer::ThreadsTooMany;
+        }
+        if memory < Params::MIN_LANE * lanes {
+            return Answer::MemoryTooSmall;
+        }
+        if Params::MAX_MEMORY < memory {
+            return Answer::MemoryTooMuch;
+        }
+        if passes == 0 {
+            return Answer::TimeTooSmall;
+        }
+        Answer::Accepted
+    }
+
+    // The first of document 01's rows 1 to 8 that holds.
+    pub fn check(self) -> Answer
+        ensures { λ r. ⌜ CheckPromise self r ⌝ }
+    {
+        let algorithm = self.algorithm;
+        if (algorithm != Params::D) & (algorithm != Params::I) & (algorithm != Params::ID) {
+            return Answer::AlgorithmInvalid;
+        }
+        let version = self.version;
+        if (version != Params::V0X10) & (version != Params::V0X13) {
+            return Answer::VersionInvalid;
+        }
+        let costs = Params::check_costs(self.lanes, self.memory, self.passes);
+        if costs.number() != 0 {
+            return costs;
+        }
+        let configured = self.configured;
+        match configured {
+            Configured::Absent => Answer::Accepted,
+            Configured::Length(n) => {
+                if n < Params::MIN_TAG {
+                    Answer::TagTooShort
+                } else {
+                    Answer::Accepted
+                }
+            }
+        }
+    }
+
+    // s = floor(m / 4p), and 0 without lanes.
+    pub fn segment_length(self) -> u32
+        ensures { λ r. ⌜ SegmentPromise self r ⌝ }
+    {
+        let lanes = self.lanes as u64;
+        if lanes == 0 {
+            return 0;
+        }
+        let memory = self.memory as u64;
+        (memory / (Params::SYNC_POINTS as u64 * lanes)) as u32
+    }
+
+    // q = 4s.
+    pub fn lane_length(self) -> u32
+        ensures { λ r. ⌜ LanePromise self r ⌝ }
+    {
+        Params::SYNC_POINTS * self.segment_length()
+    }
+
+    // m' = pq.
+    pub fn block_count(self) -> u32
+        ensures { λ r. ⌜ BlocksPromise self r ⌝ }
+    {
+        self.lanes * self.lane_length()
+    }
+}
