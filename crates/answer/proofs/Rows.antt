@@ -48,3 +48,12 @@ pub first-passed : (xs ys : List Row) → T (refusals xs) → first xs ≡ 0 →
 first-passed [] ys t h = refl
 first-passed ((n when true) ∷ xs) ys t h = absurd (never n (ltb 0 n) (refusals xs) t refl h)
 first-passed ((n when false) ∷ xs) ys t h = first-passed xs ys (rest (ltb 0 n) (refusals xs) t) h
+
+-- a list in two parts passes part by part
+pub passed-front : (xs ys : List Row) → Passed (xs ++ ys) → Passed xs
+passed-front [] ys p = tt
+passed-front ((n when test) ∷ xs) ys p = (p .0, passed-front xs ys (p .1))
+
+pub passed-back : (xs ys : List Row) → Passed (xs ++ ys) → Passed ys
+passed-back [] ys p = p
+passed-back ((n when test) ∷ xs) ys p = passed-back xs ys (p .1)

@@ -1,13 +1,14 @@
 -- What accepted parameters are: the limits as facts on numbers, and what they say of the sizes. For the proofs of the crates above.
 -- Assumes nothing.
 use Prim.Native.Nat.{ℕ, _≤_, _<_, _*_, _/_}
+use mathlib.Core.List.{[], _∷_}
 use mathlib.Core.Path.{_≡_}
 use native.Mathlib.Nat.{le-div-iff-mul-le}
 use native.Mathlib.Omega.{arith}
 use borrow.Author.Tests.{ltb-false, eqb-false}
 use Rattle.answer.specs.Answers.{first}
-use Rattle.answer.proofs.Rows.{passed, accepted}
-use Rattle.params.specs.Limits.{costRows, rows, segmentLength, slices, maxLanes, maxMemory}
+use Rattle.answer.proofs.Rows.{passed, accepted, passed-front}
+use Rattle.params.specs.Limits.{costRows, rows, tagTooShort, segmentLength, slices, maxLanes, maxMemory}
 use Rattle.params.specs.declared.Params.{Params}
 use Rattle.params.proofs.Sizes.{lane-le, blocks-le}
 
@@ -32,9 +33,9 @@ within p m t h =
 
 pub params-within : (P : Params) → first (rows P) ≡ 0 → Within (P .lanes) (P .memory) (P .passes)
 params-within P h =
-    let q = passed (rows P) tt h .1 .1 in
+    let costs = costRows (P .lanes) (P .memory) (P .passes) in
     within (P .lanes) (P .memory) (P .passes)
-    (accepted (costRows (P .lanes) (P .memory) (P .passes)) (q .0, q .1 .0, q .1 .1 .0, q .1 .1 .1 .0, q .1 .1 .1 .1 .0, tt))
+    (accepted costs (passed-front costs (tagTooShort (P .configured) ∷ []) (passed (rows P) tt h .1 .1)))
 
 -- a segment has two blocks at least
 pub two : {p m t : ℕ} → Within p m t → 2 ≤ segmentLength m p
