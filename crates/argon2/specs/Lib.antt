@@ -1,0 +1,9 @@
+pub mod Argon2
+pub mod Calls
+pub mod Filling
+pub mod Initial
+pub mod Jobs
+pub mod Loop
+pub mod Memory
+pub mod Promises
+pub mod Rows

@@ -1,0 +1,1 @@
+// BLAKE2b (RFC 7693), unkeyed.

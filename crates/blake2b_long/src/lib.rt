@@ -1,0 +1,1 @@
+// The variable-length hash (RFC 9106, 3.3).

@@ -1,0 +1,16 @@
+-- What the public functions of this crate promise.
+use Prim.Native.Nat.{ℕ}
+use mathlib.Core.Path.{_≡_}
+use Rattle.answer.specs.Answers.{number, first, ifAccepted}
+use Rattle.params.specs.Limits.{segmentLength}
+use Rattle.position.specs.Position.{firstBlock, index, referenceLane, referenceColumn, positionRows}
+use Rattle.position.specs.declared.Reference.{Reference}
+
+pub record FirstBlockPromise (r sl b : ℕ) : Type 0 where
+  pub result : b ≡ firstBlock r sl
+
+-- accepted, the reference lane and the block within that lane; refused, zeros
+pub record ReferencePromise (p m t r sl l k x : ℕ) (o : Reference) : Type 0 where
+  pub answer : number (o .answer) ≡ first (positionRows p m t r sl l k)
+  pub lane : o .lane .0 ≡ ifAccepted (first (positionRows p m t r sl l k)) (referenceLane p r sl l x) 0
+  pub block : o .block .0 ≡ ifAccepted (first (positionRows p m t r sl l k)) (referenceColumn p (segmentLength m p) r sl l k x) 0
