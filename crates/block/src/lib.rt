@@ -1,12 +1,177 @@
-// A block of 1 KiB.
+// Argon2's block and its compression (RFC 9106, sections 3.5 and 3.6).
+ghost use mathlib.Core.Path.{_≡_};
+ghost use lib.ListN.{length};
+ghost use Prim.Native.Nat.{ℕ, _+_, _*_, _<_};
+ghost use Rattle.block.specs.Block as spec;
+ghost use Rattle.block.specs.Line.{Inside, Laid, Cut, Permuted};
+ghost use Rattle.block.specs.Promises.{PermutePromise, NewPromise, XorPromise, CompressPromise};
+use word::rotr16;
+use word::rotr24;
+use word::rotr32;
+use word::rotr63;
+
+// A block of memory, as words.
 pub struct Block {
     pub words: [u64; Block::WORDS],
+}
+
+// The 32 low bits of a word.
+fn trunc(a: u64) -> u64
+    ensures { λ r. ⌜ r ≡ spec.trunc a ⌝ }
+{
+    a % 0x1_0000_0000
+}
+
+// The sum of two words and of twice the product of their low halves; each sum wraps at 64 bits.
+fn mix(a: u64, b: u64) -> u64
+    ensures { λ r. ⌜ r ≡ spec.mix a b ⌝ }
+{
+    let product = trunc(a) * trunc(b);
+    let sum = std::num::wrapping_add_u64(a, b);
+    let doubled = std::num::wrapping_add_u64(product, product);
+    std::num::wrapping_add_u64(sum, doubled)
+}
+
+// The quarter step: four words after it.
+fn quarter(a: u64, b: u64, c: u64, d: u64) -> [u64; 4]
+    ensures { λ r. ⌜ r ≡ spec.quarter a b c d ⌝ }
+{
+    let a1 = mix(a, b);
+    let d1 = rotr32(d ^ a1);
+    let c1 = mix(c, d1);
+    let b1 = rotr24(b ^ c1);
+    let a2 = mix(a1, b1);
+    let d2 = rotr16(d1 ^ a2);
+    let c2 = mix(c1, d2);
+    let b2 = rotr63(b1 ^ c2);
+    [a2, b2, c2, d2]
+}
+
+// The quarter step at four places of sixteen words.
+fn quarter_at(words: [u64; Block::ROW], a: usize, b: usize, c: usize, d: usize) -> [u64; Block::ROW]
+    requires { ⌜ (a < spec.rowWords) × (b < spec.rowWords) × (c < spec.rowWords) × (d < spec.rowWords) ⌝ }
+    ensures { λ r. ⌜ r ≡ spec.quarterAt words a b c d ⌝ }
+{
+    let mut v = words;
+    let q = quarter(v[a], v[b], v[c], v[d]);
+    v[a] = q[0];
+    v[b] = q[1];
+    v[c] = q[2];
+    v[d] = q[3];
+    v
+}
+
+// The permutation P of sixteen words.
+pub fn permute(words: [u64; Block::ROW]) -> [u64; Block::ROW]
+    ensures { λ r. ⌜ PermutePromise words r ⌝ }
+{
+    let v1 = quarter_at(words, 0, 4, 8, 12);
+    let v2 = quarter_at(v1, 1, 5, 9, 13);
+    let v3 = quarter_at(v2, 2, 6, 10, 14);
+    let v4 = quarter_at(v3, 3, 7, 11, 15);
+    let v5 = quarter_at(v4, 0, 5, 10, 15);
+    let v6 = quarter_at(v5, 1, 6, 11, 12);
+    let v7 = quarter_at(v6, 2, 7, 8, 13);
+    quarter_at(v7, 3, 4, 9, 14)
+}
+
+// Where word k of a line of registers stands: the line has register first, and each step-th after it.
+fn place(first: usize, step: usize, k: usize) -> usize
+    requires { ⌜ Inside first step × (k < spec.rowWords) ⌝ }
+    ensures { λ r. ⌜ (r ≡ spec.place first step k) × (r < spec.blockWords) ⌝ }
+{
+    Block::REGISTER * (first + step * (k / Block::REGISTER)) + k % Block::REGISTER
+}
+
+// The words of a line of registers.
+fn registers(q: &[u64; Block::WORDS], first: usize, step: usize) -> [u64; Block::ROW]
+    requires { ⌜ Inside first step ⌝ }
+    ensures { λ r. ⌜ r ≡ spec.registers first step (now (q .entry)) ⌝ }
+{
+    let mut v = [0; Block::ROW];
+    let mut k = 0;
+    while k < Block::ROW {
+        let at = place(first, step, k);
+        v[k] = q[at];
+        k += 1;
+    }
+    v
+}
+
+// Sixteen words laid down as a line of registers; every other word stays.
+fn lay(t: &mut [u64; Block::WORDS], first: usize, step: usize, v: [u64; Block::ROW])
+    requires { ⌜ Inside first step × (length (now t) ≡ spec.blockWords) ⌝ }
+    ensures { λ _. ⌜ Laid first step spec.rowWords v (now (t .entry)) (now (t .exit)) ⌝ }
+{
+    let mut k = 0;
+    while k < Block::ROW {
+        let at = place(first, step, k);
+        t[at] = v[k];
+        k += 1;
+    }
+}
+
+// The permutation on every line: line i begins at register between * i.
+fn lines(q: Block, between: usize, step: usize) -> Block
+    requires { ⌜ Cut between step ⌝ }
+    ensures { λ r. ⌜ Permuted between step spec.side (q .words) (r .words) ⌝ }
+{
+    let mut z = [0; Block::WORDS];
+    let mut i = 0;
+    while i < Block::SIDE {
+        let first = between * i;
+        let v = permute(registers(&q.words, first, step));
+        lay(&mut z, first, step, v);
+        i += 1;
+    }
+    Block { words: z }
 }
 
 impl Block {
     // The bytes of a block.
     pub const SIZE: usize = 1024;
 
-    // The words of a block.
+    // Its words.
     pub const WORDS: usize = Block::SIZE / 8;
+
+    // The words of a register.
+    pub const REGISTER: usize = 2;
+
+    // The rows, and the columns, of registers in a block; a row's registers, and a column's.
+    pub const SIDE: usize = 8;
+
+    // The words of a row, and of a column.
+    pub const ROW: usize = Block::SIDE * Block::REGISTER;
+
+    // The block of zeros.
+    pub fn new() -> Block
+        ensures { λ r. ⌜ NewPromise r ⌝ }
+    {
+        Block {
+            words: [0; Block::WORDS],
+        }
+    }
+
+    // Two blocks, XORed word by word.
+    pub fn xor(x: Block, y: Block) -> Block
+        ensures { λ r. ⌜ XorPromise x y r ⌝ }
+    {
+        let mut words = [0; Block::WORDS];
+        let mut k = 0;
+        while k < Block::WORDS {
+            words[k] = x.words[k] ^ y.words[k];
+            k += 1;
+        }
+        Block { words }
+    }
+
+    // The compression G of two blocks: the permutation on the rows of their XOR, then on the columns, XORed with it.
+    pub fn compress(x: Block, y: Block) -> Block
+        ensures { λ r. ⌜ CompressPromise x y r ⌝ }
+    {
+        let r = Block::xor(x, y);
+        let q = lines(r, Block::SIDE, 1);
+        let z = lines(q, 1, Block::SIDE);
+        Block::xor(z, r)
+    }
 }

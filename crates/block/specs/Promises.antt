@@ -1,0 +1,18 @@
+-- What the public functions of this crate promise.
+use mathlib.Core.List.{List}
+use mathlib.Core.Path.{_≡_}
+use Prim.Native.Nat.{ℕ}
+use Rattle.block.specs.Block.{zeros, xors, permutation, compress}
+use Rattle.block.specs.declared.Block.{Block}
+
+pub record PermutePromise (v r : List ℕ) : Type 0 where
+  pub result : r ≡ permutation v
+
+pub record NewPromise (r : Block) : Type 0 where
+  pub result : r .words ≡ zeros
+
+pub record XorPromise (x y r : Block) : Type 0 where
+  pub result : r .words ≡ xors (x .words) (y .words)
+
+pub record CompressPromise (x y r : Block) : Type 0 where
+  pub result : r .words ≡ compress (x .words) (y .words)
