@@ -99,8 +99,8 @@ fn answered(side: &dyn Side, case: &Case) -> Option<String> {
         Case::Hash(job) => job_line(side, job, true),
         Case::Fill(job) => job_line(side, job, false),
         Case::Long { length, seed, input } => long_line(side, *length, *seed, input),
-        Case::Position { .. } => side
-            .position(case)
-            .map(|found| format!("{} {} {}", found.answer, found.lane, found.block)),
+        Case::Position { .. } => {
+            side.position(case).map(|found| format!("{} {} {}", found.answer, found.lane, found.block))
+        }
     }
 }

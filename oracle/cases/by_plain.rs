@@ -21,14 +21,8 @@ impl Side for Plain {
 
     fn position(&self, case: &Case) -> Option<Reference> {
         let Case::Position { lanes, memory, passes, place, word } = *case else { return None };
-        let params = Params {
-            algorithm: Params::D,
-            version: Params::RFC,
-            memory,
-            passes,
-            lanes,
-            configured: None,
-        };
+        let params =
+            Params { algorithm: Params::D, version: Params::RFC, memory, passes, lanes, configured: None };
         Some(plain::reference_position(&params, place, word))
     }
 }

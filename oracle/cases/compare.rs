@@ -59,8 +59,7 @@ fn pair(cases: &[String], one: &Answers, two: &Answers) -> Result<String, String
     let parsed: Vec<Case> = cases.iter().map(|line| parse(line).expect("a case")).collect();
     let compared: Vec<usize> =
         (0..cases.len()).filter(|at| comparable(&parsed[*at], one, two, *at)).collect();
-    let differ: Vec<usize> =
-        compared.iter().copied().filter(|at| one.lines[*at] != two.lines[*at]).collect();
+    let differ: Vec<usize> = compared.iter().copied().filter(|at| one.lines[*at] != two.lines[*at]).collect();
     let accepted = compared.iter().filter(|at| one.lines[**at].starts_with("0 ")).count();
     let summary = format!(
         "{} and {}: {} cases, {} compared ({accepted} accepted, {} refused), {} differ",

@@ -214,7 +214,8 @@ fn segments() -> Vec<Job> {
 fn lanes() -> Vec<Job> {
     let mut jobs = Vec::new();
     for lanes in 1..=Params::MOST_LANES {
-        for (memory, algorithm) in [(8 * lanes, 2), (12 * lanes - 1, 0), (12 * lanes, 1), (17 * lanes + 3, 2)] {
+        for (memory, algorithm) in [(8 * lanes, 2), (12 * lanes - 1, 0), (12 * lanes, 1), (17 * lanes + 3, 2)]
+        {
             let version = if memory % 2 == 0 { Params::RFC } else { Params::OVERWRITING };
             jobs.push(Job { algorithm, version, memory, lanes, passes: 2, ..smallest() });
         }
@@ -291,7 +292,8 @@ fn accepted(random: &mut Random) -> Job {
     let tag = random.one_of(&[4, 16, 31, 32, 32, 33, 63, 64, 65, 96, 97, 128, 256]);
     let tag = if random.once_in(4) { random.between(4, 300) } else { tag };
     let lengths = [random.between(0, 40), random.between(8, 24), random.between(0, 9), random.between(0, 32)];
-    let longer = |random: &mut Random, length| if random.once_in(8) { random.between(8, 270) } else { length };
+    let longer =
+        |random: &mut Random, length| if random.once_in(8) { random.between(8, 270) } else { length };
     let job = Job {
         algorithm: random.between(0, 2) as u32,
         version: random.one_of(&[Params::OVERWRITING, Params::RFC]),
@@ -302,9 +304,18 @@ fn accepted(random: &mut Random) -> Job {
         tag,
         words: 0,
         seed: if random.once_in(8) { 0 } else { random.word() },
-        password: { let length = longer(random, lengths[0]); random.bytes(length) },
-        salt: { let length = longer(random, lengths[1]); random.bytes(length) },
-        secret: { let length = longer(random, lengths[2]); random.bytes(length) },
+        password: {
+            let length = longer(random, lengths[0]);
+            random.bytes(length)
+        },
+        salt: {
+            let length = longer(random, lengths[1]);
+            random.bytes(length)
+        },
+        secret: {
+            let length = longer(random, lengths[2]);
+            random.bytes(length)
+        },
         data: random.bytes(lengths[3]),
     };
     let more = random.one_of(&[0, 0, 1, 127, 128, 300]);

@@ -18,6 +18,7 @@ use std::process::ExitCode;
 
 const USAGE: &str = "compare-oracle generate [--cases N] [--seed S]
 compare-oracle large
+compare-oracle sides                    the sides that were built
 compare-oracle answer plain|crate       cases on standard input
 compare-oracle compare CASES NAME=ANSWERS NAME=ANSWERS ..
 compare-oracle program                  one input of 01's program on standard input
@@ -107,6 +108,9 @@ fn run(words: &[String]) -> Done {
             print(generate::cases(count as usize, seed).map(|case| case.to_string()))
         }
         ["large"] => print(generate::large().iter().map(ToString::to_string)),
+        ["sides"] => {
+            print(["plain", compare::CRATE].iter().filter(|name| side(name).is_ok()).map(ToString::to_string))
+        }
         ["answer", name] => answer_all(&*side(name)?),
         ["compare", cases, _, _, ..] => compare_files(cases, &words[2..]),
         ["program"] => program(),

@@ -89,7 +89,15 @@ mod made {
     /// Positions that are refused, at the boundaries of rows 3 to 7 and 17.
     fn refused() -> Vec<Case> {
         let most = Params::MOST_MEMORY;
-        let costs = [(0, 8, 1), (0, 0, 0), (17, 136, 1), (17, 0, 0), (u32::MAX, u32::MAX, 1), (1, 7, 1), (16, 127, 1)];
+        let costs = [
+            (0, 8, 1),
+            (0, 0, 0),
+            (17, 136, 1),
+            (17, 0, 0),
+            (u32::MAX, u32::MAX, 1),
+            (1, 7, 1),
+            (16, 127, 1),
+        ];
         let more = [(16, 127, 0), (1, most + 1, 1), (16, most + 1, 0), (1, 8, 0), (1, u32::MAX, 0)];
         let inside = Place { pass: 0, slice: 1, lane: 0, block: 0 };
         let at = |(lanes, memory, passes), place, word| Case::Position { lanes, memory, passes, place, word };
@@ -108,25 +116,42 @@ mod made {
             Place { slice: 0, ..inside },
             Place { slice: 0, block: 1, ..inside },
         ];
-        cases.extend(outside.into_iter().flat_map(|place| [0, u64::MAX].map(|word| at((2, 24, 3), place, word))));
+        cases.extend(
+            outside.into_iter().flat_map(|place| [0, u64::MAX].map(|word| at((2, 24, 3), place, word))),
+        );
         cases.extend(outside.into_iter().map(|place| at((2, 15, 0), place, 1)));
         cases
     }
 
-    /// The list of reference positions: a sample of each traced filling, then refusals from the plain copy.
+    /// Whether a block is one of the first or the last three of its segment.
+    fn at_an_edge(case: &Case) -> bool {
+        let Case::Position { lanes, memory, place, .. } = *case else { return false };
+        place.block < 3 || place.block + 3 >= memory / (Params::SLICES as u32 * lanes)
+    }
+
+    /// So many entries of a list, in its order.
+    fn sample<T: Clone>(list: &[T], count: usize, random: &mut Random) -> Vec<T> {
+        let mut chosen: Vec<usize> = (0..count).map(|_| random.between(0, list.len() - 1)).collect();
+        chosen.sort();
+        chosen.dedup();
+        chosen.into_iter().map(|at| list[at].clone()).collect()
+    }
+
+    /// The list of reference positions: a sample of each traced filling, half of it at the edges of the
+    /// segments, then refusals from the plain copy.
     pub fn positions() -> impl Iterator<Item = String> {
         let mut lines = vec![
             "# Recorded by `oracle/record`; the format is oracle/README.md's.".to_string(),
             "# position P M T PASS SLICE LANE BLOCK WORD = ANSWER LANE BLOCK BY".to_string(),
         ];
         for (shape, seed) in shapes().into_iter().zip(1..) {
-            let seen = trace(shape, seed);
+            let (edge, inner): (Vec<_>, Vec<_>) =
+                trace(shape, seed).into_iter().partition(|seen| at_an_edge(&seen.0));
             let mut random = Random::new(seed);
-            let mut chosen: Vec<usize> = (0..60).map(|_| random.between(0, seen.len() - 1)).collect();
-            chosen.sort();
-            chosen.dedup();
-            for (case, found) in chosen.into_iter().map(|at| &seen[at]) {
-                lines.push(format!("{case} = {} {} {} crate", found.answer, found.lane, found.block));
+            for list in [edge, inner].iter().filter(|list| !list.is_empty()) {
+                for (case, found) in sample(list, 60, &mut random) {
+                    lines.push(format!("{case} = {} {} {} crate", found.answer, found.lane, found.block));
+                }
             }
         }
         lines.extend(refused().iter().map(|case| format!("{case} = {} 01", line(&Plain, case))));

@@ -88,15 +88,8 @@ pub fn fill_memory(params: &Params, inputs: &Inputs, words: &mut [u64]) -> Answe
 
 /// "Initial hash": six numbers, then the four inputs, each after its count.
 fn initial_hash(params: &Params, inputs: &Inputs, tag: usize) -> [u8; MOST_OUT] {
-    let numbers = [
-        params.lanes,
-        tag as u32,
-        params.memory,
-        params.passes,
-        params.version,
-        params.algorithm,
-    ]
-    .map(u32::to_le_bytes);
+    let numbers = [params.lanes, tag as u32, params.memory, params.passes, params.version, params.algorithm]
+        .map(u32::to_le_bytes);
     let parts = [inputs.password, inputs.salt, inputs.secret, inputs.data];
     let counts = parts.map(|part| (part.len() as u32).to_le_bytes());
     let mut pieces: Vec<&[u8]> = numbers.iter().map(|number| &number[..]).collect();
@@ -144,8 +137,7 @@ fn first_block(initial: &[u8; MOST_OUT], number: u32, lane: u32) -> Block {
 
 /// Fills what is to be filled of one segment, block after block.
 fn fill_segment(params: &Params, pass: u32, slice: u32, lane: u32, words: &mut [u64]) {
-    let addressed = params.algorithm == Params::I
-        || params.algorithm == Params::ID && pass == 0 && slice < 2;
+    let addressed = params.algorithm == Params::I || params.algorithm == Params::ID && pass == 0 && slice < 2;
     let base = lane as usize * params.lane_length();
     let mut addresses = [0; BLOCK_WORDS];
     let start = Place::first_block(pass, slice);

@@ -60,9 +60,8 @@ fn mix(v: &mut [u64; 16], [a, b, c, d]: [usize; 4], x: u64, y: u64) {
 
 /// Section 3.2, the compression function F: `count` bytes so far, this block's own among them.
 pub fn compress(h: &mut State, block: &[u8; BLOCK_BYTES], count: u128, last: bool) {
-    let m: [u64; 16] = std::array::from_fn(|i| {
-        u64::from_le_bytes(std::array::from_fn(|byte| block[8 * i + byte]))
-    });
+    let m: [u64; 16] =
+        std::array::from_fn(|i| u64::from_le_bytes(std::array::from_fn(|byte| block[8 * i + byte])));
     let mut v: [u64; 16] = std::array::from_fn(|i| if i < 8 { h[i] } else { IV[i - 8] });
     v[12] ^= count as u64;
     v[13] ^= (count >> 64) as u64;

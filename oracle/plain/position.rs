@@ -43,20 +43,13 @@ impl Place {
         } else {
             params.lane_length() as u64 - segment
         };
-        if own {
-            finished + u64::from(self.block) - 1
-        } else {
-            finished - u64::from(self.block == 0)
-        }
+        if own { finished + u64::from(self.block) - 1 } else { finished - u64::from(self.block == 0) }
     }
 
     /// The reference lane, and the block within that lane, for a random word.
     pub fn refers_to(&self, params: &Params, word: u64) -> (u32, u32) {
-        let lane = if self.pass == 0 && self.slice == 0 {
-            self.lane
-        } else {
-            (word >> 32) as u32 % params.lanes
-        };
+        let lane =
+            if self.pass == 0 && self.slice == 0 { self.lane } else { (word >> 32) as u32 % params.lanes };
         let area = self.area(params, lane == self.lane);
         let low = word & 0xffff_ffff;
         let x = (low * low) >> 32;

@@ -7,14 +7,8 @@ fn hex(bytes: &[u8]) -> String {
     bytes.iter().map(|byte| format!("{byte:02x}")).collect()
 }
 
-const BASE: Params = Params {
-    algorithm: Params::ID,
-    version: Params::RFC,
-    memory: 8,
-    passes: 1,
-    lanes: 1,
-    configured: None,
-};
+const BASE: Params =
+    Params { algorithm: Params::ID, version: Params::RFC, memory: 8, passes: 1, lanes: 1, configured: None };
 
 /// The answer of a hash with a salt, a tag and lent words of these lengths.
 fn answer(params: Params, salt: usize, tag: usize, words: usize) -> Answer {
