@@ -338,11 +338,13 @@ fn drawn(random: &mut Random) -> Case {
     call(job)
 }
 
-/// So many cases: the edges, then random ones from the seed.
+/// So many cases: the edges, evenly fewer of them where they are more, then random ones from the seed.
 pub fn cases(count: usize, seed: u64) -> impl Iterator<Item = Case> {
+    let edges = edges();
+    let taken = count.min(edges.len());
     let mut random = Random::new(seed);
     let drawn = std::iter::repeat_with(move || drawn(&mut random));
-    edges().into_iter().chain(drawn).take(count)
+    (0..taken).map(move |i| edges[i * edges.len() / taken].clone()).chain(drawn).take(count)
 }
 
 /// Accepted jobs at the upper ends, which take gigabytes or long: 2^32-1 bytes of input, 2^20 blocks.
