@@ -277,7 +277,7 @@ fn edges() -> Vec<Case> {
 pub fn recorded() -> Vec<Case> {
     let boundaries = [rows(), cost_boundaries(), input_boundaries()].concat();
     let every = |n: usize, jobs: Vec<Job>| jobs.into_iter().step_by(n).collect::<Vec<_>>();
-    let shapes = [lent(tags()), lent(passes()), lent(every(2, segments())), lent(every(5, lanes()))].concat();
+    let shapes = [lent(tags()), lent(passes()), lent(segments()), lent(every(5, lanes()))].concat();
     let jobs = [boundaries, shapes, lent(every(15, inputs()))].concat();
     let fillings = fillings(every(9, jobs.clone()));
     let longs = longs().into_iter().step_by(3);
