@@ -1,3 +1,5 @@
+pub mod Laws
 pub mod Line
 pub mod Mixing
 pub mod Settled
+pub mod Vectors
