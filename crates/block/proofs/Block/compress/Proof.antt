@@ -1,17 +1,21 @@
 -- `block::Block::compress` meets its contract: the lines are the rows, and then the columns. Assumes nothing.
 use borrow.Author.Needs.{needs}
-use Rattle.block.specs.Block.{compress}
 use Rattle.block.specs.Line.{into-rows, into-columns}
 use Rattle.block.proofs.Line.{are-lines}
+use Rattle.block.proofs.Stepping.{passed}
 use Rattle.block.proofs.Block.compress.Statement.{statement}
 use Rattle.block.proofs.Block.compress.Tie as tie
 
 returns : tie.Need-returns
-unfolding compress
 returns c =
-    let first = are-lines (c .before .before .lines .ensures) (search (into-rows, into-columns)) in
-    let second = are-lines (c .before .lines2 .ensures) (search (into-rows, into-columns)) in
-    record { result = cc (first, second) }
+    let s2 = c .before .before in
+    record {
+      result =
+          passed _ _ (c .xor2 .ensures .result)
+          (are-lines (c .before .lines2 .ensures) (search (into-rows, into-columns)))
+          (are-lines (s2 .lines .ensures) (search (into-rows, into-columns)))
+          (s2 .before .xor .ensures .result);
+    }
 
 pub compress-spec : {M : Type 1} → statement M
 compress-spec =
