@@ -33,7 +33,7 @@ fn next(seed: u64) -> u64 {
 }
 
 // The block of the next words that are drawn.
-fn drawn(seed: u64) -> Drawn {
+fn draw(seed: u64) -> Drawn {
     let mut words = [0; Block::WORDS];
     let mut state = seed;
     let mut k = 0;
@@ -68,12 +68,8 @@ fn digit(n: u8) -> u8
     if n < 10 { b'0' + n } else { b'a' + (n - 10) }
 }
 
-// Digit k of a block's bytes, each word little-endian: the high half of a byte stands first.
-fn digit_at(words: &[u64; Block::WORDS], k: usize) -> u8
-    requires { ⌜ k < 2 * blockBytes ⌝ }
-{
-    let bytes = to_le64(words[k / DIGITS]);
-    let byte = bytes[k % DIGITS / 2];
+// A byte's hex digit: the high one at an even place of the text, the low one at an odd place.
+fn half(byte: u8, k: usize) -> u8 {
     if k % 2 == 0 {
         digit(byte / 16)
     } else {
@@ -81,14 +77,28 @@ fn digit_at(words: &[u64; Block::WORDS], k: usize) -> u8
     }
 }
 
-// One line: what it is, and the block.
-fn print(name: &[u8], b: Block) {
+// Digit k of a block's bytes, each word little-endian.
+fn digit_at(words: &[u64; Block::WORDS], k: usize) -> u8
+    requires { ⌜ k < 2 * blockBytes ⌝ }
+{
+    let bytes = to_le64(words[k / DIGITS]);
+    half(bytes[k % DIGITS / 2], k)
+}
+
+// The text of a block.
+fn hex(b: Block) -> [u8; TEXT] {
     let mut text = [0u8; TEXT];
     let mut k = 0;
     while k < TEXT {
         text[k] = digit_at(&b.words, k);
         k += 1;
     }
+    text
+}
+
+// One line: what it is, and the block.
+fn print(name: &[u8], b: Block) {
+    let text = hex(b);
     io::write_all(STDOUT_FILENO, name);
     io::write_all(STDOUT_FILENO, &text);
     io::write_all(STDOUT_FILENO, b"\n");
@@ -99,8 +109,8 @@ fn pairs(seed: u64) -> u64 {
     let mut state = seed;
     let mut i = 0;
     while i < PAIRS {
-        let x = drawn(state);
-        let y = drawn(x.seed);
+        let x = draw(state);
+        let y = draw(x.seed);
         print(b"compress random  ", Block::compress(x.block, y.block));
         state = y.seed;
         i += 1;
@@ -135,7 +145,7 @@ pub(crate) fn replay() {
     );
     print(b"compress ones  ", Block::compress(ones, zeros));
     let seed = pairs(SEED);
-    let x = drawn(seed);
-    let y = drawn(x.seed);
+    let x = draw(seed);
+    let y = draw(x.seed);
     print(b"chain  ", chain(x.block, y.block));
 }
