@@ -2,7 +2,7 @@
 use native.Mathlib.Omega.{arith}
 use borrow.Author.Needs.{needs}
 use Rattle.position.specs.Position.{area}
-use Rattle.position.proofs.Bound.{finished-le}
+use Rattle.position.proofs.Lane.{finished-le}
 use Rattle.position.proofs.area.Statement.{statement}
 use Rattle.position.proofs.area.Tie as tie
 

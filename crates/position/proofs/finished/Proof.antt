@@ -2,7 +2,7 @@
 use native.Mathlib.Omega.{arith}
 use borrow.Author.Needs.{needs}
 use Rattle.position.specs.Position.{finished}
-use Rattle.position.proofs.Bound.{slice-le}
+use Rattle.position.proofs.Lane.{slice-le}
 use Rattle.position.proofs.finished.Statement.{statement}
 use Rattle.position.proofs.finished.Tie as tie
 

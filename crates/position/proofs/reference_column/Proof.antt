@@ -4,7 +4,7 @@ use native.Mathlib.Nat.{mod-lt}
 use native.Mathlib.Omega.{arith}
 use borrow.Author.Needs.{needs}
 use Rattle.params.specs.Limits.{slices}
-use Rattle.position.proofs.Bound.{area-le, place-le, start-le}
+use Rattle.position.proofs.Lane.{area-le, place-le, start-le}
 use Rattle.position.proofs.reference_column.Statement.{statement}
 use Rattle.position.proofs.reference_column.Tie as tie
 

@@ -3,7 +3,7 @@ use Prim.Native.Nat.{_+_}
 use native.Mathlib.Omega.{arith}
 use borrow.Author.Needs.{needs}
 use Rattle.position.specs.Position.{start}
-use Rattle.position.proofs.Bound.{slice-le}
+use Rattle.position.proofs.Lane.{slice-le}
 use Rattle.position.proofs.start.Statement.{statement}
 use Rattle.position.proofs.start.Tie as tie
 
