@@ -2,7 +2,7 @@
 use Prim.Native.Nat.{ℕ, zero, suc, _+_, _*_, _-_, _%_, _/_, _^_, _<_, _≤_}
 use mathlib.Core.Path.{_≡_, ap, sym, _∙_, subst⁻¹}
 use mathlib.Core.List.{List, [], _∷_}
-use native.Mathlib.Nat.{add-comm, mod-lt}
+use native.Mathlib.Nat.{mod-lt}
 use native.Mathlib.Omega.{arith}
 use lib.Arith.{digits-lt}
 use lib.Bits.{bitXor, xor-comm, xor-lt, xor-zero-r}
@@ -90,9 +90,9 @@ turned-lt n x y l hx hy = rotr-lt n (bitXor x y) l (xor-lt 64 x y hx hy)
 quarter-word : (a b c d : ℕ) → b < 2 ^ 64 → d < 2 ^ 64 → (n : ℕ) → getD (quarter a b c d) n 0 < 2 ^ 64
 unfolding quarter
 quarter-word a b c d hb hd zero = mix-lt _ _
-quarter-word a b c d hb hd (suc zero) = turned-lt 63 _ _ (omega arith) (turned-lt 24 _ _ (omega arith) hb (mix-lt _ _)) (mix-lt _ _)
+quarter-word a b c d hb hd (suc zero) = turned-lt _ _ _ (omega arith) (turned-lt _ _ _ (omega arith) hb (mix-lt _ _)) (mix-lt _ _)
 quarter-word a b c d hb hd (suc (suc zero)) = mix-lt _ _
-quarter-word a b c d hb hd (suc (suc (suc zero))) = turned-lt 16 _ _ (omega arith) (turned-lt 32 _ _ (omega arith) hd (mix-lt _ _)) (mix-lt _ _)
+quarter-word a b c d hb hd (suc (suc (suc zero))) = turned-lt _ _ _ (omega arith) (turned-lt _ _ _ (omega arith) hd (mix-lt _ _)) (mix-lt _ _)
 quarter-word a b c d hb hd (suc (suc (suc (suc n)))) = omega arith
 
 quarterAt-words : {v : List ℕ} (a b c d : ℕ) → Words v → Words (quarterAt v a b c d)
