@@ -1,3 +1,4 @@
 pub mod Jobs
+pub mod Joined
 pub mod Memory
 pub mod Tests
