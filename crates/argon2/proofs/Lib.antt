@@ -1,4 +1,5 @@
 pub mod Jobs
 pub mod Joined
 pub mod Memory
+pub mod Standing
 pub mod Tests
