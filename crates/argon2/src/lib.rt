@@ -1,5 +1,6 @@
 // Argon2 (RFC 9106), one block a call, in memory that the caller lends.
 mod blocks;
+mod fill;
 mod job;
 
 pub use job::Job;
