@@ -131,3 +131,88 @@ fn reference_index(
     let column = to.block;
     index(params, to.lane, column)
 }
+
+// Word 0 of the previous block.
+fn previous_word(words: &[u64], params: Params, slice: u32, lane: LaneNumber, block: u32) -> u64
+    requires { ⌜ (slice < slices) × (block < segment params) × (blockWords * spec.previousIndex params slice (lane .0) block + blockWords ≤ length (now words)) ⌝ }
+    ensures { λ r. ⌜ r ≡ getD (memory.block (spec.previousIndex params slice (lane .0) block) (now (words .entry))) 0 0 ⌝ }
+{
+    let first = Block::WORDS * previous_index(params, slice, lane, block);
+    words[first]
+}
+
+// The random word of a block.
+fn random_word(
+    words: &[u64],
+    params: Params,
+    pass: u32,
+    slice: u32,
+    lane: LaneNumber,
+    block: u32,
+) -> u64
+    requires { ⌜ Fillable params pass slice (lane .0) block (length (now words)) ⌝ }
+    ensures { λ r. ⌜ r ≡ spec.wordFor params pass slice (lane .0) block (now (words .entry)) ⌝ }
+{
+    if is_addressed(params, pass, slice) {
+        let addresses = address_block(params, pass, slice, lane, address_counter(block));
+        return address_word(addresses, block);
+    }
+    previous_word(words, params, slice, lane, block)
+}
+
+// Stores a new block: pass 0 or version 16 overwrites; otherwise XOR with what stood there.
+fn store(words: &mut [u64], params: Params, pass: u32, at: usize, new: Block)
+    requires { ⌜ blockWords * at + blockWords ≤ length (now words) ⌝ }
+    ensures { λ _. ⌜ now (words .exit) ≡ memory.put at (cond (spec.overwrites params pass) (new .words) (xors (memory.block at (now (words .entry))) (new .words))) (now (words .entry)) ⌝ }
+{
+    if (pass == 0) | (params.version == Params::V0X10) {
+        write_block(words, at, new);
+        return;
+    }
+    let old = read_block(&*words, at);
+    write_block(words, at, Block::xor(old, new));
+}
+
+// Fills a block whose random word is given: the compression of the previous block and the reference block is stored.
+fn fill_with(
+    words: &mut [u64],
+    params: Params,
+    pass: u32,
+    slice: u32,
+    lane: LaneNumber,
+    block: u32,
+    word: u64,
+)
+    requires { ⌜ Fillable params pass slice (lane .0) block (length (now words)) × (word ≡ spec.wordFor params pass slice (lane .0) block (now words)) ⌝ }
+    ensures { λ _. ⌜ now (words .exit) ≡ spec.fill params pass slice (lane .0) block (now (words .entry)) ⌝ }
+{
+    let previous = read_block(&*words, previous_index(params, slice, lane, block));
+    let reference = read_block(
+        &*words,
+        reference_index(params, pass, slice, lane, block, word),
+    );
+    let new = Block::compress(previous, reference);
+    store(
+        words,
+        params,
+        pass,
+        current_index(params, slice, lane, block),
+        new,
+    );
+}
+
+// Fills a block: finds its random word, and fills with that.
+pub(crate) fn fill_block(
+    words: &mut [u64],
+    params: Params,
+    pass: u32,
+    slice: u32,
+    lane: LaneNumber,
+    block: u32,
+)
+    requires { ⌜ Fillable params pass slice (lane .0) block (length (now words)) ⌝ }
+    ensures { λ _. ⌜ now (words .exit) ≡ spec.fill params pass slice (lane .0) block (now (words .entry)) ⌝ }
+{
+    let word = random_word(&*words, params, pass, slice, lane, block);
+    fill_with(words, params, pass, slice, lane, block, word);
+}
