@@ -1,5 +1,8 @@
+pub mod Answered
+pub mod Filling
+pub mod Inner
 pub mod Jobs
-pub mod Joined
 pub mod Memory
+pub mod Settled
 pub mod Standing
 pub mod Tests
