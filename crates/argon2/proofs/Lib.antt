@@ -1,3 +1,4 @@
 pub mod Filling
 pub mod Inner
+pub mod Loop
 pub mod Memory
