@@ -13,6 +13,7 @@ use Rattle.word.proofs.Table.{length-table}
 use Rattle.block.specs.Block.{blockWords, xors, compress, columns, rows}
 use Rattle.params.specs.Limits.{slices, segment, laneLength, blocks}
 use Rattle.params.specs.declared.Params.{Params}
+use Rattle.position.specs.Address.{addressed, addressBlock, addressCounter, addressPlace, addressedWord, randomWord}
 use Rattle.position.specs.Position.{column, index, previousColumn, reference}
 use Rattle.position.proofs.Referring.{segments, index-lt}
 use Rattle.argon2.specs.Filling.{currentIndex, previousIndex, wordFor, referenceIndex, newBlock, overwrites, storedBlock, fill}
@@ -77,6 +78,17 @@ module _
     pub fill-outside : (i : ℕ) → i / blockWords ≢ currentIndex P sl l k → getD (fill P r sl l k w) i 0 ≡ getD w i 0
     unfolding fill
     fill-outside i n = put-outside (currentIndex P sl l k) (storedBlock P r sl l k w) w room (stored-length P r sl l k w) i n
+
+-- the random word, where an address block gives it, and where the previous block does
+pub word-addressed : (P : Params) (r sl l k : ℕ) (w : List ℕ) → addressed P r sl ≡ true
+    → wordFor P r sl l k w ≡ getD (addressBlock P r sl l (addressCounter k)) (addressPlace k) 0
+unfolding randomWord addressedWord
+word-addressed P r sl l k w e = rw e
+
+pub word-dependent : (P : Params) (r sl l k : ℕ) (w : List ℕ) → addressed P r sl ≡ false
+    → wordFor P r sl l k w ≡ getD (block (previousIndex P sl l k) w) 0 0
+unfolding randomWord
+word-dependent P r sl l k w e = rw e
 
 -- the memory once a block is filled, made from its parts
 module _ (P : Params) (r sl l k : ℕ) (w : List ℕ) (x before from at : ℕ) (previous referred new : List ℕ) where

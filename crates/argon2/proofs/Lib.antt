@@ -2,6 +2,7 @@ pub mod Answered
 pub mod Filling
 pub mod Inner
 pub mod Jobs
+pub mod Loop
 pub mod Memory
 pub mod Settled
 pub mod Standing

@@ -216,3 +216,87 @@ pub(crate) fn fill_block(
     let word = random_word(&*words, params, pass, slice, lane, block);
     fill_with(words, params, pass, slice, lane, block, word);
 }
+
+// Fills a segment whose random words come from address blocks. An address block is made when the counter changes, and so at the
+// segment's first block, be it block 0 or block 2.
+fn fill_addressed(words: &mut [u64], params: Params, pass: u32, slice: u32, lane: LaneNumber)
+    requires { ⌜ Segment params pass slice (lane .0) (length (now words)) × (addressed params pass slice ≡ true) ⌝ }
+    ensures { λ _. ⌜ now (words .exit) ≡ spec.fillSegment params pass slice (lane .0) (now (words .entry)) ⌝ }
+{
+    let end = params.segment_length();
+    let mut made = 0;
+    let mut addresses = Block::new();
+    let mut block = first_block(pass, slice);
+    while block < end {
+        let counter = address_counter(block);
+        if made != counter {
+            made = counter;
+            addresses = address_block(params, pass, slice, lane, counter);
+        }
+        let word = address_word(addresses, block);
+        fill_with(&mut *words, params, pass, slice, lane, block, word);
+        block += 1;
+    }
+}
+
+// Fills a segment whose random words come from the blocks before.
+fn fill_dependent(words: &mut [u64], params: Params, pass: u32, slice: u32, lane: LaneNumber)
+    requires { ⌜ Segment params pass slice (lane .0) (length (now words)) × (addressed params pass slice ≡ false) ⌝ }
+    ensures { λ _. ⌜ now (words .exit) ≡ spec.fillSegment params pass slice (lane .0) (now (words .entry)) ⌝ }
+{
+    let end = params.segment_length();
+    let mut block = first_block(pass, slice);
+    while block < end {
+        let word = previous_word(&*words, params, slice, lane, block);
+        fill_with(&mut *words, params, pass, slice, lane, block, word);
+        block += 1;
+    }
+}
+
+// Fills a lane's segment.
+fn fill_segment(words: &mut [u64], params: Params, pass: u32, slice: u32, lane: LaneNumber)
+    requires { ⌜ Segment params pass slice (lane .0) (length (now words)) ⌝ }
+    ensures { λ _. ⌜ now (words .exit) ≡ spec.fillSegment params pass slice (lane .0) (now (words .entry)) ⌝ }
+{
+    if is_addressed(params, pass, slice) {
+        fill_addressed(words, params, pass, slice, lane);
+    } else {
+        fill_dependent(words, params, pass, slice, lane);
+    }
+}
+
+// Fills a slice: the segment of every lane.
+fn fill_slice(words: &mut [u64], params: Params, pass: u32, slice: u32)
+    requires { ⌜ Lent params (length (now words)) × (pass < params .passes) × (slice < slices) ⌝ }
+    ensures { λ _. ⌜ now (words .exit) ≡ spec.fillSlice params pass slice (now (words .entry)) ⌝ }
+{
+    let mut lane = 0;
+    while lane < params.lanes {
+        fill_segment(&mut *words, params, pass, slice, LaneNumber(lane));
+        lane += 1;
+    }
+}
+
+// Fills a pass: every slice.
+fn fill_pass(words: &mut [u64], params: Params, pass: u32)
+    requires { ⌜ Lent params (length (now words)) × (pass < params .passes) ⌝ }
+    ensures { λ _. ⌜ now (words .exit) ≡ spec.fillPass params pass (now (words .entry)) ⌝ }
+{
+    let mut slice = 0;
+    while slice < Params::SYNC_POINTS {
+        fill_slice(&mut *words, params, pass, slice);
+        slice += 1;
+    }
+}
+
+// Fills all: every pass.
+pub(crate) fn fill_all(words: &mut [u64], params: Params)
+    requires { ⌜ Lent params (length (now words)) ⌝ }
+    ensures { λ _. ⌜ now (words .exit) ≡ spec.fillAll params (now (words .entry)) ⌝ }
+{
+    let mut pass = 0;
+    while pass < params.passes {
+        fill_pass(&mut *words, params, pass);
+        pass += 1;
+    }
+}

@@ -15,7 +15,7 @@ use Rattle.argon2.proofs.job.Job.check_step.Statement.{statement}
 use Rattle.argon2.proofs.job.Job.check_step.Tie as tie
 
 past17 : (c : tie.Else1) → consistent (c .before .before .before .args .self) ≡ true
-past17 c = sym (c .before .consistent .ensures) ∙ not-false (c .before .consistent .result) (c .if1 .left)
+past17 c = sym (c .before .consistent .ensures .0) ∙ not-false (c .before .consistent .result) (c .if1 .left)
 
 past16 : (c : tie.Else2) → let a = c .before .before .before .before .before .args in ltb (a .words) (blockWords * blocks (a .self .params)) ≡ false
 past16 c = sym (c .before .too-little .ensures) ∙ c .if2 .left
@@ -24,7 +24,7 @@ past18 : (c : tie.Else3) → complete (c .before .before .before .before .before
 past18 c = sym (c .before .complete .ensures) ∙ c .if3 .left
 
 returns : tie.Need-returns
-returns c = rw (sym (c .before .consistent .ensures) ∙ not-true (c .before .consistent .result) (c .if1 .taken))
+returns c = rw (sym (c .before .consistent .ensures .0) ∙ not-true (c .before .consistent .result) (c .if1 .taken))
 
 returns-2 : tie.Need-returns-2
 returns-2 c = rw (past17 (c .before .before), sym (c .before .too-little .ensures) ∙ c .if2 .taken)
