@@ -1,13 +1,27 @@
 // The initial hash (RFC 9106, 3.2), and the blocks that each lane begins with.
 use blake2b::State;
+use blake2b_long::blake2b_long;
+use block::Block;
+use crate::blocks::write_block;
+use crate::bytes::block_of;
+use crate::bytes::lay;
 use params::Params;
+use position::BlockNumber;
+use position::LaneNumber;
 use word::to_le32;
+ghost use mathlib.Core.List.{_++_};
 ghost use mathlib.Core.Path.{_≡_};
-ghost use Prim.Native.Nat.{_≤_};
+ghost use Prim.Native.Nat.{_*_, _<_, _≤_};
 ghost use lib.ListN.{length};
 ghost use Rattle.blake2b.specs.Stream.{feedAll};
-ghost use Rattle.argon2.specs.Initial.{le32, counted, header, initialHash};
+ghost use Rattle.block.specs.Block.{blockWords};
+ghost use Rattle.params.specs.Limits.{segment, blocks};
+ghost use Rattle.argon2.specs.Initial.{le32, counted, header, initialHash, firstWords, startLane, startMemory};
 ghost use Rattle.argon2.specs.Rows.{maxLength};
+
+// The bytes of a number, and of what a first block is hashed from.
+const NUMBER: usize = 4;
+const FIRST_INPUT: usize = State::MAX_OUTPUT + 2 * NUMBER;
 
 // The state after a number, 4 bytes little-endian.
 fn feed_number(state: State, n: u32) -> State
@@ -72,4 +86,59 @@ pub(crate) fn initial_hash(
     let s = feed_counted(s, secret);
     let s = feed_counted(s, ad);
     s.end()
+}
+
+// What a first block is hashed from: the initial hash, the block's number and the lane's.
+fn first_input(h: [u8; State::MAX_OUTPUT], lane: LaneNumber, block: BlockNumber) -> [u8; FIRST_INPUT]
+    ensures { λ r. ⌜ r ≡ h ++ le32 (block .0) ++ le32 (lane .0) ⌝ }
+{
+    let mut input = [0; FIRST_INPUT];
+    let of_block = to_le32(block.0);
+    let of_lane = to_le32(lane.0);
+    lay(&mut input, 0, &h);
+    lay(&mut input, State::MAX_OUTPUT, &of_block);
+    lay(&mut input, State::MAX_OUTPUT + NUMBER, &of_lane);
+    input
+}
+
+// A first block of a lane: the variable-length hash of that, as words.
+fn first_block_of(h: [u8; State::MAX_OUTPUT], lane: LaneNumber, block: BlockNumber) -> Block
+    ensures { λ r. ⌜ r .words ≡ firstWords h (lane .0) (block .0) ⌝ }
+{
+    let input = first_input(h, lane, block);
+    let mut bytes = [0; Block::SIZE];
+    blake2b_long(&input, &mut bytes);
+    block_of(bytes)
+}
+
+// Blocks 0 and 1 of a lane written; every other block stays.
+fn start_lane(words: &mut [u64], params: Params, h: [u8; State::MAX_OUTPUT], lane: LaneNumber)
+    requires {
+        ⌜ (lane .0 < params .lanes)
+            × (2 ≤ segment params)
+            × (blockWords * blocks params ≤ length (now words)) ⌝
+    }
+    ensures { λ _. ⌜ now (words .exit) ≡ startLane h (segment params) (lane .0) (now (words .entry)) ⌝ }
+{
+    let q = params.lane_length();
+    let first = BlockNumber(0);
+    let second = BlockNumber(1);
+    write_block(words, first.in_memory(lane, q), first_block_of(h, lane, first));
+    write_block(words, second.in_memory(lane, q), first_block_of(h, lane, second));
+}
+
+// Blocks 0 and 1 of every lane written; every other block stays.
+pub(crate) fn first_blocks(words: &mut [u64], params: Params, h: [u8; State::MAX_OUTPUT])
+    requires { ⌜ (2 ≤ segment params) × (blockWords * blocks params ≤ length (now words)) ⌝ }
+    ensures {
+        λ _. ⌜ now (words .exit)
+            ≡ startMemory h (params .lanes) (segment params) (now (words .entry)) ⌝
+    }
+{
+    let lanes = params.lanes;
+    let mut lane = 0;
+    while lane < lanes {
+        start_lane(words, params, h, LaneNumber(lane));
+        lane += 1;
+    }
 }
