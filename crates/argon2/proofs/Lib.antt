@@ -1,2 +1,3 @@
+pub mod Commute
 pub mod Filling
 pub mod Memory
