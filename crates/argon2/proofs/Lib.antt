@@ -1,3 +1,5 @@
 pub mod Commute
 pub mod Filling
+pub mod Jobs
 pub mod Memory
+pub mod Tests
