@@ -2,4 +2,5 @@ pub mod Commute
 pub mod Filling
 pub mod Jobs
 pub mod Memory
+pub mod StartMemory
 pub mod Tests
