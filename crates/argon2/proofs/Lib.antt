@@ -1,2 +1,6 @@
+pub mod Commute
 pub mod Filling
+pub mod Jobs
 pub mod Memory
+pub mod StartMemory
+pub mod Tests
