@@ -1,1 +1,4 @@
+pub mod Accepted
+pub mod Bound
 pub mod Referring
+pub mod Settled
