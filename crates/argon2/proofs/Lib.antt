@@ -1,6 +1,9 @@
 pub mod Commute
 pub mod Filling
+pub mod HashInput
 pub mod Jobs
+pub mod Laid
+pub mod LastBlocks
 pub mod Memory
 pub mod StartMemory
 pub mod Tests

@@ -11,12 +11,12 @@ use position::LaneNumber;
 use word::to_le32;
 ghost use mathlib.Core.List.{_++_};
 ghost use mathlib.Core.Path.{_≡_};
-ghost use Prim.Native.Nat.{_*_, _<_, _≤_};
+ghost use Prim.Native.Nat.{_<_, _≤_};
 ghost use lib.ListN.{length};
 ghost use Rattle.blake2b.specs.Stream.{feedAll};
-ghost use Rattle.block.specs.Block.{blockWords};
-ghost use Rattle.params.specs.Limits.{segment, blocks};
+ghost use Rattle.params.specs.Limits.{segment};
 ghost use Rattle.argon2.specs.Initial.{le32, counted, header, initialHash, firstWords, startLane, startMemory};
+ghost use Rattle.argon2.specs.Inner.{Lent};
 ghost use Rattle.argon2.specs.Rows.{maxLength};
 
 // The bytes of a number, and of what a first block is hashed from.
@@ -114,9 +114,7 @@ fn first_block_of(h: [u8; State::MAX_OUTPUT], lane: LaneNumber, block: BlockNumb
 // Blocks 0 and 1 of a lane written; every other block stays.
 fn start_lane(words: &mut [u64], params: Params, h: [u8; State::MAX_OUTPUT], lane: LaneNumber)
     requires {
-        ⌜ (lane .0 < params .lanes)
-            × (2 ≤ segment params)
-            × (blockWords * blocks params ≤ length (now words)) ⌝
+        ⌜ Lent params (length (now words)) × (lane .0 < params .lanes) ⌝
     }
     ensures { λ _. ⌜ now (words .exit) ≡ startLane h (segment params) (lane .0) (now (words .entry)) ⌝ }
 {
@@ -129,7 +127,7 @@ fn start_lane(words: &mut [u64], params: Params, h: [u8; State::MAX_OUTPUT], lan
 
 // Blocks 0 and 1 of every lane written; every other block stays.
 pub(crate) fn first_blocks(words: &mut [u64], params: Params, h: [u8; State::MAX_OUTPUT])
-    requires { ⌜ (2 ≤ segment params) × (blockWords * blocks params ≤ length (now words)) ⌝ }
+    requires { ⌜ Lent params (length (now words)) ⌝ }
     ensures {
         λ _. ⌜ now (words .exit)
             ≡ startMemory h (params .lanes) (segment params) (now (words .entry)) ⌝

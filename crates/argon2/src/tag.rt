@@ -7,16 +7,16 @@ use params::Params;
 use position::BlockNumber;
 use position::LaneNumber;
 ghost use mathlib.Core.Path.{_≡_};
-ghost use Prim.Native.Nat.{_*_, _≤_};
+ghost use Prim.Native.Nat.{_≤_};
 ghost use lib.ListN.{length};
-ghost use Rattle.block.specs.Block.{blockWords};
-ghost use Rattle.params.specs.Limits.{segment, blocks};
+ghost use Rattle.params.specs.Limits.{segment};
 ghost use Rattle.argon2.specs.Argon2.{lastBlocks, tagOf};
+ghost use Rattle.argon2.specs.Inner.{Lent};
 ghost use Rattle.argon2.specs.Rows.{maxLength};
 
 // The XOR of every lane's last block.
 fn last_blocks(words: &[u64], params: Params) -> Block
-    requires { ⌜ (2 ≤ segment params) × (blockWords * blocks params ≤ length (now words)) ⌝ }
+    requires { ⌜ Lent params (length (now words)) ⌝ }
     ensures { λ r. ⌜ r .words ≡ lastBlocks (params .lanes) (segment params) (now (words .entry)) ⌝ }
 {
     let q = params.lane_length();
@@ -35,8 +35,7 @@ fn last_blocks(words: &[u64], params: Params) -> Block
 // The tag of a filled memory: the variable-length hash of that XOR, as many bytes as out has.
 pub(crate) fn tag(words: &[u64], params: Params, out: &mut [u8])
     requires {
-        ⌜ (2 ≤ segment params)
-            × (blockWords * blocks params ≤ length (now words))
+        ⌜ Lent params (length (now words))
             × (1 ≤ length (now out))
             × (length (now out) ≤ maxLength) ⌝
     }

@@ -1,54 +1,36 @@
+-- `argon2::bytes::block_of` meets its contract: the loop fills the table word by word. Assumes nothing.
+use Prim.Native.Nat.{ℕ, _-_, _*_, _≤_, _<_}
+use mathlib.Core.Path.{_≡_, refl}
+use native.Mathlib.Omega.{arith}
+use borrow.Author.Needs.{needs}
+use lib.ListN.{length, getD, length-set}
+use Rattle.word.specs.Word.{wordAt}
+use Rattle.word.proofs.Table.{is-table, filled}
+use Rattle.block.specs.Block.{blockWords}
+use Rattle.argon2.specs.Initial.{blockOf}
 use Rattle.argon2.proofs.bytes.block_of.Statement.{statement}
 use Rattle.argon2.proofs.bytes.block_of.Tie as tie
-use Rattle.argon2.proofs.bytes.block_of.Reads as reads
-use Rattle.argon2.proofs.bytes.block_of.Lts as lts
-use Rattle.word.proofs.load.Reads as load-reads
 
 abbrev Inv-loop : tie.InvT-loop
-Inv-loop s words₀ n₀ words n = ?
+Inv-loop s words₀ n₀ words n =
+    (n ≤ blockWords) × (length words ≡ blockWords) × ((j : ℕ) → j < n → getD words j 0 ≡ wordAt s (8 * j))
 
 abbrev μ-loop : tie.MeasureT-loop
-μ-loop s words₀ n₀ words n = ?
+μ-loop s words₀ n₀ words n = blockWords - n
 
--- src/bytes.rt:33:9
-slice-aggregate-s : tie.Need-slice-aggregate-s Inv-loop μ-loop
-slice-aggregate-s c = ?
-
--- src/bytes.rt:36:5
 loop-holds : tie.Need-loop-holds Inv-loop μ-loop
-loop-holds c = ?
+loop-holds c = (omega arith, refl, λ j b. omega arith)
 
--- src/bytes.rt:37:28
-mul-load : tie.Need-mul-load Inv-loop μ-loop
-mul-load c = ?
-
--- src/bytes.rt:37:20
-load-requires : tie.Need-load-requires Inv-loop μ-loop
-load-requires c κs = ?
-
--- src/bytes.rt:37:9
-mul-words : tie.Need-mul-words Inv-loop μ-loop
-mul-words c = ?
-
--- src/bytes.rt:37:9
-array-write-words : tie.Need-array-write-words Inv-loop μ-loop
-array-write-words c = ?
-
--- src/bytes.rt:38:9
-add-n : tie.Need-add-n Inv-loop μ-loop
-add-n c = ?
-
--- src/bytes.rt:36:5
-loop-less : tie.Need-loop-less Inv-loop μ-loop
-loop-less c = ?
-
--- src/bytes.rt:36:5
 loop-again : tie.Need-loop-again Inv-loop μ-loop
-loop-again c = ?
+loop-again c =
+    let l = c .before .before .loop in
+    (omega arith, simp length-set (l .inv .1), filled (λ j. wordAt _ (8 * j)) (l .words) (l .n) _ (omega arith) (l .inv .2) (c .load .ensures .result))
 
--- src/bytes.rt:30:1
 returns : tie.Need-returns Inv-loop μ-loop
-returns c = ?
+unfolding blockOf
+returns c =
+    let l = c .before .loop in
+    is-table (λ j. wordAt _ (8 * j)) blockWords (l .words) (l .inv .1) (λ j b. l .inv .2 j (omega arith))
 
 pub block-of-spec : {M : Type 1} → statement M
 block-of-spec =
@@ -56,13 +38,13 @@ block-of-spec =
     (tie.spec
     Inv-loop
     μ-loop
-    slice-aggregate-s
+    (λ c. search needs)
     loop-holds
-    mul-load
-    load-requires
-    mul-words
-    array-write-words
-    add-n
-    loop-less
+    (λ c. omega arith)
+    (λ c κs. search needs)
+    (λ c. omega arith)
+    (λ c. omega arith)
+    (λ c. omega arith)
+    (λ c. omega arith)
     loop-again
     returns)

@@ -1,62 +1,50 @@
+-- `argon2::tag::last_blocks` meets its contract: after each turn, one lane more is in the XOR. Assumes nothing.
+use Prim.Native.Nat.{ℕ, _-_, _*_, _≤_}
+use mathlib.Core.Path.{_≡_}
+use native.Mathlib.Omega.{arith}
+use borrow.Author.Needs.{needs}
+use Rattle.params.specs.Limits.{slices, laneLength}
+use Rattle.params.proofs.Within.{params-within, two}
+use Rattle.argon2.specs.Argon2.{lastBlocks}
+use Rattle.argon2.proofs.Filling.{fits-at}
+use Rattle.argon2.proofs.LastBlocks.{last-more}
 use Rattle.argon2.proofs.tag.last_blocks.Statement.{statement}
 use Rattle.argon2.proofs.tag.last_blocks.Tie as tie
-use Rattle.argon2.proofs.tag.last_blocks.Reads as reads
-use Rattle.argon2.proofs.tag.last_blocks.Lts as lts
-use Rattle.argon2.proofs.blocks.read_block.Reads as read-block-reads
-use Rattle.block.proofs.Block.new.Reads as new-reads
-use Rattle.block.proofs.Block.xor.Reads as xor-reads
-use Rattle.params.proofs.Params.lane_length.Reads as lane-length-reads
-use Rattle.position.proofs.BlockNumber.in_memory.Reads as in-memory-reads
 
 abbrev Inv-loop : tie.InvT-loop
-Inv-loop words q last lanes x₀ lane₀ x lane = ?
+Inv-loop words q last lanes x₀ lane₀ x lane = (lane ≤ lanes) × ((s : ℕ) → q ≡ slices * s → x .words ≡ lastBlocks lane s words)
 
 abbrev μ-loop : tie.MeasureT-loop
-μ-loop words q last lanes x₀ lane₀ x lane = ?
+μ-loop words q last lanes x₀ lane₀ x lane = lanes - lane
 
--- src/tag.rt:22:9
-lane-length-requires : tie.Need-lane-length-requires Inv-loop μ-loop
-lane-length-requires c κs = ?
-
--- src/tag.rt:23:28
 sub-t9 : tie.Need-sub-t9 Inv-loop μ-loop
-sub-t9 c = ?
+sub-t9 c =
+    let start = c .before .before in
+    omega (arith, c .lane-length .ensures .result, two (params-within (start .args .params) (start .pre .accepted)))
 
--- src/tag.rt:25:9
-new-requires : tie.Need-new-requires Inv-loop μ-loop
-new-requires c κs = ?
-
--- src/tag.rt:27:5
 loop-holds : tie.Need-loop-holds Inv-loop μ-loop
-loop-holds c = ?
+unfolding lastBlocks
+loop-holds c = (omega arith, λ s e. c .new .ensures .result)
 
--- src/tag.rt:28:13
-in-memory-requires : tie.Need-in-memory-requires Inv-loop μ-loop
-in-memory-requires c κs = ?
-
--- src/tag.rt:29:27
 read-block-requires : tie.Need-read-block-requires Inv-loop μ-loop
-read-block-requires c κs = ?
+read-block-requires c κs =
+    let start = c .before .before .before .before .before .before in
+    let P = start .args .params in
+    rw (c .in-memory .ensures .result, c .before .before .before .before .lane-length .ensures .result)
+    (fits-at P (start .args .words .now) (start .pre .enough) (c .before .before .loop .lane) (laneLength P - 1) (omega arith)
+    (omega (arith, two (params-within P (start .pre .accepted)))))
 
--- src/tag.rt:29:9
-xor-requires : tie.Need-xor-requires Inv-loop μ-loop
-xor-requires c κs = ?
-
--- src/tag.rt:30:9
-add-lane : tie.Need-add-lane Inv-loop μ-loop
-add-lane c = ?
-
--- src/tag.rt:27:5
-loop-less : tie.Need-loop-less Inv-loop μ-loop
-loop-less c = ?
-
--- src/tag.rt:27:5
 loop-again : tie.Need-loop-again Inv-loop μ-loop
-loop-again c = ?
+loop-again c =
+    let l = c .before .before .before .before .loop in
+    (omega arith, λ s e. last-more (l .lane) s _ _ _ (l .inv .1 s e) (c .before .read-block .ensures) (c .before .before .in-memory .ensures .result) e (c .xor .ensures .result))
 
--- src/tag.rt:18:1
 returns : tie.Need-returns Inv-loop μ-loop
-returns c = ?
+returns c =
+    let l = c .before .loop in
+    let P = c .before .before .before .before .before .args .params in
+    let e : l .lane ≡ P .lanes = omega arith in
+    rw e at (l .inv .1 _ (c .before .before .before .lane-length .ensures .result))
 
 pub last-blocks-spec : {M : Type 1} → statement M
 last-blocks-spec =
@@ -64,14 +52,14 @@ last-blocks-spec =
     (tie.spec
     Inv-loop
     μ-loop
-    lane-length-requires
+    (λ c κs. search needs)
     sub-t9
-    new-requires
+    (λ c κs. search needs)
     loop-holds
-    in-memory-requires
+    (λ c κs. search needs)
     read-block-requires
-    xor-requires
-    add-lane
-    loop-less
+    (λ c κs. search needs)
+    (λ c. omega arith)
+    (λ c. omega arith)
     loop-again
     returns)
