@@ -1,4 +1,5 @@
--- What the crate's own functions require: parameters that are accepted, in a memory of so many words, and there a block that a step fills.
+-- What the crate's own functions require: parameters that are accepted, in a memory of so many words, and there a block that a step fills;
+-- and inputs that can be counted.
 use Prim.Native.Nat.{ℕ, _*_, _≤_, _<_}
 use mathlib.Core.Path.{_≡_}
 use Rattle.answer.specs.Answers.{first}
@@ -6,11 +7,20 @@ use Rattle.block.specs.Block.{blockWords}
 use Rattle.params.specs.Limits.{rows, slices, segment, blocks}
 use Rattle.params.specs.declared.Params.{Params}
 use Rattle.position.specs.Position.{firstBlock}
+use Rattle.argon2.specs.Rows.{maxLength}
 
 -- rows 1 to 8 accept the parameters, and the memory has all their blocks
 pub record Lent (P : Params) (words : ℕ) : Type 0 where
   pub accepted : first (rows P) ≡ 0
   pub enough : blockWords * blocks P ≤ words
+
+-- "Domain and sizes": a tag of n bytes, and inputs of so many, whose counts 4 bytes hold
+pub record Countable (n password salt secret ad : ℕ) : Type 0 where
+  pub of-tag : n ≤ maxLength
+  pub of-password : password ≤ maxLength
+  pub of-salt : salt ≤ maxLength
+  pub of-secret : secret ≤ maxLength
+  pub of-ad : ad ≤ maxLength
 
 -- "The job": pass, slice and lane are those of a segment
 pub record Segment (P : Params) (r sl l words : ℕ) : Type 0 where

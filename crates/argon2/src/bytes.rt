@@ -9,15 +9,16 @@ ghost use lib.ListN.{length, take, drop};
 ghost use Rattle.blake2b.specs.Blake2b.{bytes};
 ghost use Rattle.argon2.specs.Initial.{blockOf};
 
+// The bytes of a word.
+const WORD: usize = 8;
+
 // The bytes of a piece for those of out from at on; every other byte stays.
 pub(crate) fn lay(out: &mut [u8], at: usize, piece: &[u8])
     requires { ⌜ at + length (now piece) ≤ length (now out) ⌝ }
-    ensures {
-        λ _. ⌜ now (out .exit)
-            ≡ take at (now (out .entry))
-                ++ now (piece .entry)
-                ++ drop (at + length (now (piece .entry))) (now (out .entry)) ⌝
-    }
+    ensures { λ _. ⌜ now (out .exit)
+        ≡ take at (now (out .entry))
+        ++ now (piece .entry)
+        ++ drop (at + length (now (piece .entry))) (now (out .entry)) ⌝ }
 {
     let mut i = 0;
     while i < piece.len() {
@@ -34,7 +35,7 @@ pub(crate) fn block_of(bytes: [u8; Block::SIZE]) -> Block
     let mut words = [0; Block::WORDS];
     let mut n = 0;
     while n < Block::WORDS {
-        words[n] = load(s, 8 * n);
+        words[n] = load(s, WORD * n);
         n += 1;
     }
     Block { words }
@@ -48,7 +49,7 @@ pub(crate) fn bytes_of(x: Block) -> [u8; Block::SIZE]
     let mut n = 0;
     while n < Block::WORDS {
         let word = to_le64(x.words[n]);
-        lay(&mut out, 8 * n, &word);
+        lay(&mut out, WORD * n, &word);
         n += 1;
     }
     out

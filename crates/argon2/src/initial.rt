@@ -1,10 +1,10 @@
 // The initial hash (RFC 9106, 3.2), and the blocks that each lane begins with.
-use blake2b::State;
-use blake2b_long::blake2b_long;
-use block::Block;
 use crate::blocks::write_block;
 use crate::bytes::block_of;
 use crate::bytes::lay;
+use blake2b::State;
+use blake2b_long::blake2b_long;
+use block::Block;
 use params::Params;
 use position::BlockNumber;
 use position::LaneNumber;
@@ -16,11 +16,12 @@ ghost use lib.ListN.{length};
 ghost use Rattle.blake2b.specs.Stream.{feedAll};
 ghost use Rattle.params.specs.Limits.{segment};
 ghost use Rattle.argon2.specs.Initial.{le32, counted, header, initialHash, firstWords, startLane, startMemory};
-ghost use Rattle.argon2.specs.Inner.{Lent};
+ghost use Rattle.argon2.specs.Inner.{Lent, Countable};
 ghost use Rattle.argon2.specs.Rows.{maxLength};
 
 // The bytes of a number, and of what a first block is hashed from.
 const NUMBER: usize = 4;
+
 const FIRST_INPUT: usize = State::MAX_OUTPUT + 2 * NUMBER;
 
 // The state after a number, 4 bytes little-endian.
@@ -61,23 +62,15 @@ pub(crate) fn initial_hash(
     secret: &[u8],
     ad: &[u8],
 ) -> [u8; State::MAX_OUTPUT]
-    requires {
-        ⌜ (tag ≤ maxLength)
-            × (length (now password) ≤ maxLength)
-            × (length (now salt) ≤ maxLength)
-            × (length (now secret) ≤ maxLength)
-            × (length (now ad) ≤ maxLength) ⌝
-    }
-    ensures {
-        λ r. ⌜ r
-            ≡ initialHash
-                params
-                tag
-                (now (password .entry))
-                (now (salt .entry))
-                (now (secret .entry))
-                (now (ad .entry)) ⌝
-    }
+    requires { ⌜ Countable tag (length (now password)) (length (now salt)) (length (now secret)) (length (now ad)) ⌝ }
+    ensures { λ r. ⌜ r
+        ≡ initialHash
+        params
+        tag
+        (now (password .entry))
+        (now (salt .entry))
+        (now (secret .entry))
+        (now (ad .entry)) ⌝ }
 {
     let s = State::begin(State::MAX_OUTPUT);
     let s = feed_header(s, params, tag as u32);
@@ -89,7 +82,11 @@ pub(crate) fn initial_hash(
 }
 
 // What a first block is hashed from: the initial hash, the block's number and the lane's.
-fn first_input(h: [u8; State::MAX_OUTPUT], lane: LaneNumber, block: BlockNumber) -> [u8; FIRST_INPUT]
+fn first_input(
+    h: [u8; State::MAX_OUTPUT],
+    lane: LaneNumber,
+    block: BlockNumber,
+) -> [u8; FIRST_INPUT]
     ensures { λ r. ⌜ r ≡ h ++ le32 (block .0) ++ le32 (lane .0) ⌝ }
 {
     let mut input = [0; FIRST_INPUT];
@@ -113,25 +110,29 @@ fn first_block_of(h: [u8; State::MAX_OUTPUT], lane: LaneNumber, block: BlockNumb
 
 // Blocks 0 and 1 of a lane written; every other block stays.
 fn start_lane(words: &mut [u64], params: Params, h: [u8; State::MAX_OUTPUT], lane: LaneNumber)
-    requires {
-        ⌜ Lent params (length (now words)) × (lane .0 < params .lanes) ⌝
-    }
+    requires { ⌜ Lent params (length (now words)) × (lane .0 < params .lanes) ⌝ }
     ensures { λ _. ⌜ now (words .exit) ≡ startLane h (segment params) (lane .0) (now (words .entry)) ⌝ }
 {
     let q = params.lane_length();
     let first = BlockNumber(0);
     let second = BlockNumber(1);
-    write_block(words, first.in_memory(lane, q), first_block_of(h, lane, first));
-    write_block(words, second.in_memory(lane, q), first_block_of(h, lane, second));
+    write_block(
+        words,
+        first.in_memory(lane, q),
+        first_block_of(h, lane, first),
+    );
+    write_block(
+        words,
+        second.in_memory(lane, q),
+        first_block_of(h, lane, second),
+    );
 }
 
 // Blocks 0 and 1 of every lane written; every other block stays.
 pub(crate) fn first_blocks(words: &mut [u64], params: Params, h: [u8; State::MAX_OUTPUT])
     requires { ⌜ Lent params (length (now words)) ⌝ }
-    ensures {
-        λ _. ⌜ now (words .exit)
-            ≡ startMemory h (params .lanes) (segment params) (now (words .entry)) ⌝
-    }
+    ensures { λ _. ⌜ now (words .exit)
+        ≡ startMemory h (params .lanes) (segment params) (now (words .entry)) ⌝ }
 {
     let lanes = params.lanes;
     let mut lane = 0;

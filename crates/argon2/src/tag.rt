@@ -1,8 +1,8 @@
 // The tag (document 01, "Tag").
-use blake2b_long::blake2b_long;
-use block::Block;
 use crate::blocks::read_block;
 use crate::bytes::bytes_of;
+use blake2b_long::blake2b_long;
+use block::Block;
 use params::Params;
 use position::BlockNumber;
 use position::LaneNumber;
@@ -34,14 +34,10 @@ fn last_blocks(words: &[u64], params: Params) -> Block
 
 // The tag of a filled memory: the variable-length hash of that XOR, as many bytes as out has.
 pub(crate) fn tag(words: &[u64], params: Params, out: &mut [u8])
-    requires {
-        ⌜ Lent params (length (now words))
-            × (1 ≤ length (now out))
-            × (length (now out) ≤ maxLength) ⌝
-    }
-    ensures {
-        λ _. ⌜ now (out .exit) ≡ tagOf params (length (now (out .entry))) (now (words .entry)) ⌝
-    }
+    requires { ⌜ Lent params (length (now words))
+        × (1 ≤ length (now out))
+        × (length (now out) ≤ maxLength) ⌝ }
+    ensures { λ _. ⌜ now (out .exit) ≡ tagOf params (length (now (out .entry))) (now (words .entry)) ⌝ }
 {
     let bytes = bytes_of(last_blocks(words, params));
     blake2b_long(&bytes, out);

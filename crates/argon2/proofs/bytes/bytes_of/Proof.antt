@@ -1,6 +1,5 @@
 -- `argon2::bytes::bytes_of` meets its contract: after n turns, the bytes of n words stand at the front. Assumes nothing.
-use Prim.Native.Nat.{ℕ, _-_, _*_, _≤_}
-use mathlib.Core.List.{List}
+use Prim.Native.Nat.{_-_, _*_, _≤_}
 use mathlib.Core.Path.{_≡_, refl, sym, ap, _∙_}
 use native.Mathlib.Omega.{arith}
 use borrow.Author.Needs.{needs}
@@ -11,8 +10,6 @@ use Rattle.block.specs.Block.{blockBytes, blockWords}
 use Rattle.argon2.proofs.Laid.{word-laid}
 use Rattle.argon2.proofs.bytes.bytes_of.Statement.{statement}
 use Rattle.argon2.proofs.bytes.bytes_of.Tie as tie
-use Rattle.argon2.proofs.bytes.bytes_of.Reads as reads
-use Rattle.argon2.proofs.bytes.bytes_of.Lts as lts
 
 abbrev Inv-loop : tie.InvT-loop
 Inv-loop x out₀ n₀ out n =

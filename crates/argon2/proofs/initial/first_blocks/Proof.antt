@@ -1,6 +1,5 @@
 -- `argon2::initial::first_blocks` meets its contract: after each turn, one lane more has its first blocks. Assumes nothing.
 use Prim.Native.Nat.{ℕ, _-_, _≤_}
-use mathlib.Core.List.{List}
 use mathlib.Core.Path.{_≡_, refl, sym, ap, _∙_}
 use native.Mathlib.Numerals.{add-one}
 use native.Mathlib.Omega.{arith}
@@ -11,8 +10,6 @@ use Rattle.argon2.specs.Initial.{startLane, startMemory}
 use Rattle.argon2.proofs.StartMemory.{start-last}
 use Rattle.argon2.proofs.initial.first_blocks.Statement.{statement}
 use Rattle.argon2.proofs.initial.first_blocks.Tie as tie
-use Rattle.argon2.proofs.initial.first_blocks.Reads as reads
-use Rattle.argon2.proofs.initial.first_blocks.Lts as lts
 
 abbrev Inv-loop : tie.InvT-loop
 Inv-loop words₀ params h lanes lane₀ words lane =

@@ -9,9 +9,6 @@ use Rattle.argon2.specs.Initial.{le32, initialHashBytes}
 use Rattle.argon2.proofs.Laid.{three-laid}
 use Rattle.argon2.proofs.initial.first_input.Statement.{statement}
 use Rattle.argon2.proofs.initial.first_input.Tie as tie
-use Rattle.argon2.proofs.initial.first_input.Reads as reads
-use Rattle.argon2.proofs.initial.first_input.Lts as lts
-use Rattle.argon2.proofs.bytes.lay.Reads as lay-reads
 
 returns : tie.Need-returns
 returns c =

@@ -9,7 +9,7 @@ use Rattle.argon2.proofs.initial.initial_hash.Statement.{statement}
 use Rattle.argon2.proofs.initial.initial_hash.Tie as tie
 
 feed-counted-requires-4 : tie.Need-feed-counted-requires-4
-feed-counted-requires-4 c κs = c .before .before .before .before .before .before .before .before .before .pre .4
+feed-counted-requires-4 c κs = c .before .before .before .before .before .before .before .before .before .pre .of-ad
 
 returns : tie.Need-returns
 unfolding hashInput

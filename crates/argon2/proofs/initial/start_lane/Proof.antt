@@ -1,7 +1,7 @@
 -- `argon2::initial::start_lane` meets its contract: the two blocks are put, one after the other. Assumes nothing.
 use Prim.Native.Nat.{ℕ, _*_}
 use mathlib.Core.List.{List}
-use mathlib.Core.Path.{_≡_, ap}
+use mathlib.Core.Path.{_≡_}
 use native.Mathlib.Omega.{arith}
 use borrow.Author.Needs.{needs}
 use Rattle.params.specs.Limits.{slices}
@@ -12,8 +12,6 @@ use Rattle.argon2.specs.Memory.{put}
 use Rattle.argon2.proofs.Filling.{fits-at}
 use Rattle.argon2.proofs.initial.start_lane.Statement.{statement}
 use Rattle.argon2.proofs.initial.start_lane.Tie as tie
-use Rattle.argon2.proofs.initial.start_lane.Reads as reads
-use Rattle.argon2.proofs.initial.start_lane.Lts as lts
 
 both : (h w : List ℕ) (s l q : ℕ) {n₀ n₁ : ℕ} {x₀ x₁ w₁ w₂ : List ℕ} → q ≡ slices * s → n₀ ≡ inMemory q l 0 → n₁ ≡ inMemory q l 1
     → x₀ ≡ firstWords h l 0 → x₁ ≡ firstWords h l 1 → w₁ ≡ put n₀ x₀ w → w₂ ≡ put n₁ x₁ w₁ → w₂ ≡ startLane h s l w

@@ -31,8 +31,11 @@ read-block-requires c κs =
     let start = c .before .before .before .before .before .before in
     let P = start .args .params in
     rw (c .in-memory .ensures .result, c .before .before .before .before .lane-length .ensures .result)
-    (fits-at P (start .args .words .now) (start .pre .enough) (c .before .before .loop .lane) (laneLength P - 1) (omega arith)
-    (omega (arith, two (params-within P (start .pre .accepted)))))
+    (omega (
+      arith,
+      fits-at P (start .args .words .now) (start .pre .enough) (c .before .before .loop .lane) (laneLength P - 1) (omega arith)
+          (omega (arith, two (params-within P (start .pre .accepted)))),
+    ))
 
 loop-again : tie.Need-loop-again Inv-loop μ-loop
 loop-again c =
