@@ -7,6 +7,7 @@ use borrow.Author.Needs.{needs}
 use lib.ListN.{length}
 use Rattle.params.specs.Limits.{segment}
 use Rattle.argon2.specs.Initial.{startLane, startMemory}
+use Rattle.argon2.proofs.Inner.{lent-as}
 use Rattle.argon2.proofs.StartMemory.{start-last}
 use Rattle.argon2.proofs.initial.first_blocks.Statement.{statement}
 use Rattle.argon2.proofs.initial.first_blocks.Tie as tie
@@ -23,9 +24,7 @@ unfolding startMemory
 loop-holds c = (omega arith, refl, refl)
 
 start-lane-requires : tie.Need-start-lane-requires Inv-loop μ-loop
-start-lane-requires c κs =
-    let pre = c .before .before .before .before .pre in
-    (record { accepted = pre .accepted; enough = omega (arith, pre .enough, c .before .before .loop .inv .1) }, omega arith)
+start-lane-requires c κs = (lent-as (c .before .before .before .before .pre) (c .before .before .loop .inv .1), omega arith)
 
 loop-again : tie.Need-loop-again Inv-loop μ-loop
 loop-again c =

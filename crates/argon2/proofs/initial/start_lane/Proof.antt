@@ -5,11 +5,10 @@ use mathlib.Core.Path.{_≡_}
 use native.Mathlib.Omega.{arith}
 use borrow.Author.Needs.{needs}
 use Rattle.params.specs.Limits.{slices}
-use Rattle.params.proofs.Within.{params-within, two}
 use Rattle.position.specs.Position.{inMemory}
 use Rattle.argon2.specs.Initial.{firstWords, startLane}
 use Rattle.argon2.specs.Memory.{put}
-use Rattle.argon2.proofs.Filling.{fits-at}
+use Rattle.argon2.proofs.Inner.{two, room}
 use Rattle.argon2.proofs.initial.start_lane.Statement.{statement}
 use Rattle.argon2.proofs.initial.start_lane.Tie as tie
 
@@ -21,22 +20,15 @@ both h w s l q e i₀ i₁ f₀ f₁ p₀ p₁ = rw (p₁, p₀, f₁, f₀, i�
 write-block-requires : tie.Need-write-block-requires
 write-block-requires c κs =
     let start = c .before .before .before .before .before in
-    let P = start .args .params in
     rw (c .before .in-memory .ensures .result, c .before .before .before .lane-length .ensures .result)
-    (fits-at P (start .args .words .now) (start .pre .0 .enough) (start .args .lane .0) 0 (start .pre .1)
-    (omega (arith, two (params-within P (start .pre .0 .accepted)))))
+    (room (start .pre .0) (start .args .lane .0) 0 (start .pre .1) (omega (arith, two (start .pre .0))))
 
 write-block-requires-2 : tie.Need-write-block-requires-2
 write-block-requires-2 c κs =
     let first = c .before .before .before .before .before .before in
     let start = first .before .before .before .before .before in
-    let P = start .args .params in
     rw (c .before .in-memory2 .ensures .result, first .before .before .before .lane-length .ensures .result)
-    (omega (
-      arith,
-      fits-at P (start .args .words .now) (start .pre .0 .enough) (start .args .lane .0) 1 (start .pre .1)
-          (omega (arith, two (params-within P (start .pre .0 .accepted)))),
-    ))
+    (omega (arith, room (start .pre .0) (start .args .lane .0) 1 (start .pre .1) (omega (arith, two (start .pre .0)))))
 
 returns : tie.Need-returns
 returns c =

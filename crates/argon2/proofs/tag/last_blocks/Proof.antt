@@ -4,9 +4,8 @@ use mathlib.Core.Path.{_≡_}
 use native.Mathlib.Omega.{arith}
 use borrow.Author.Needs.{needs}
 use Rattle.params.specs.Limits.{slices, laneLength}
-use Rattle.params.proofs.Within.{params-within, two}
 use Rattle.argon2.specs.Argon2.{lastBlocks}
-use Rattle.argon2.proofs.Filling.{fits-at}
+use Rattle.argon2.proofs.Inner.{two, room}
 use Rattle.argon2.proofs.LastBlocks.{last-more}
 use Rattle.argon2.proofs.tag.last_blocks.Statement.{statement}
 use Rattle.argon2.proofs.tag.last_blocks.Tie as tie
@@ -20,7 +19,7 @@ abbrev μ-loop : tie.MeasureT-loop
 sub-t9 : tie.Need-sub-t9 Inv-loop μ-loop
 sub-t9 c =
     let start = c .before .before in
-    omega (arith, c .lane-length .ensures .result, two (params-within (start .args .params) (start .pre .accepted)))
+    omega (arith, c .lane-length .ensures .result, two (start .pre))
 
 loop-holds : tie.Need-loop-holds Inv-loop μ-loop
 unfolding lastBlocks
@@ -29,13 +28,9 @@ loop-holds c = (omega arith, λ s e. c .new .ensures .result)
 read-block-requires : tie.Need-read-block-requires Inv-loop μ-loop
 read-block-requires c κs =
     let start = c .before .before .before .before .before .before in
-    let P = start .args .params in
+    let q = laneLength (start .args .params) in
     rw (c .in-memory .ensures .result, c .before .before .before .before .lane-length .ensures .result)
-    (omega (
-      arith,
-      fits-at P (start .args .words .now) (start .pre .enough) (c .before .before .loop .lane) (laneLength P - 1) (omega arith)
-          (omega (arith, two (params-within P (start .pre .accepted)))),
-    ))
+    (omega (arith, room (start .pre) (c .before .before .loop .lane) (q - 1) (omega arith) (omega (arith, two (start .pre)))))
 
 loop-again : tie.Need-loop-again Inv-loop μ-loop
 loop-again c =
