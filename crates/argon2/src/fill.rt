@@ -1,16 +1,15 @@
 // Document 01's rules of filling: one block, and all of them in the order of RFC 9106.
-ghost use mathlib.Core.Bool.{true, false, cond};
+ghost use mathlib.Core.Bool.{true, false};
 ghost use mathlib.Core.Path.{_≡_};
-ghost use Prim.Native.Nat.{_+_, _*_, _≤_, _<_};
+ghost use Prim.Native.Nat.{_<_};
 ghost use denote.Ref.{now};
 ghost use lib.ListN.{getD, length};
 ghost use Rattle.answer.specs.Answers.{first};
-ghost use Rattle.block.specs.Block.{blockWords, xors};
 ghost use Rattle.params.specs.Limits.{slices, segment};
 ghost use Rattle.position.specs.Address.{addressed, addressBlock, addressCounter, addressPlace};
 ghost use Rattle.position.specs.Position as position;
 ghost use Rattle.argon2.specs.Filling as spec;
-ghost use Rattle.argon2.specs.Inner.{Lent, Segment, Fillable};
+ghost use Rattle.argon2.specs.Inner.{Has, Lent, Segment, Fillable, stored};
 ghost use Rattle.argon2.specs.Memory as memory;
 use crate::blocks::read_block;
 use crate::blocks::write_block;
@@ -56,11 +55,11 @@ fn address_counter(block: u32) -> u32
 }
 
 // The word of its address block that a block takes.
-fn address_word(addresses: Block, block: u32) -> u64
-    ensures { λ r. ⌜ r ≡ getD (addresses .words) (addressPlace block) 0 ⌝ }
+fn address_word(addresses: &[u64; Block::WORDS], block: u32) -> u64
+    ensures { λ r. ⌜ r ≡ getD (now (addresses .entry)) (addressPlace block) 0 ⌝ }
 {
     let at = block as usize % Block::WORDS;
-    addresses.words[at]
+    addresses[at]
 }
 
 // The number in memory of a lane's block at a column.
@@ -134,7 +133,7 @@ fn reference_index(
 
 // Word 0 of the previous block.
 fn previous_word(words: &[u64], params: Params, slice: u32, lane: LaneNumber, block: u32) -> u64
-    requires { ⌜ (slice < slices) × (block < segment params) × (blockWords * spec.previousIndex params slice (lane .0) block + blockWords ≤ length (now words)) ⌝ }
+    requires { ⌜ (slice < slices) × (block < segment params) × Has (length (now words)) (spec.previousIndex params slice (lane .0) block) ⌝ }
     ensures { λ r. ⌜ r ≡ getD (memory.block (spec.previousIndex params slice (lane .0) block) (now (words .entry))) 0 0 ⌝ }
 {
     let first = Block::WORDS * previous_index(params, slice, lane, block);
@@ -155,15 +154,15 @@ fn random_word(
 {
     if is_addressed(params, pass, slice) {
         let addresses = address_block(params, pass, slice, lane, address_counter(block));
-        return address_word(addresses, block);
+        return address_word(&addresses.words, block);
     }
     previous_word(words, params, slice, lane, block)
 }
 
 // Stores a new block: pass 0 or version 16 overwrites; otherwise XOR with what stood there.
 fn store(words: &mut [u64], params: Params, pass: u32, at: usize, new: Block)
-    requires { ⌜ blockWords * at + blockWords ≤ length (now words) ⌝ }
-    ensures { λ _. ⌜ now (words .exit) ≡ memory.put at (cond (spec.overwrites params pass) (new .words) (xors (memory.block at (now (words .entry))) (new .words))) (now (words .entry)) ⌝ }
+    requires { ⌜ Has (length (now words)) at ⌝ }
+    ensures { λ _. ⌜ now (words .exit) ≡ stored params pass at (new .words) (now (words .entry)) ⌝ }
 {
     if (pass == 0) | (params.version == Params::V0X10) {
         write_block(words, at, new);
@@ -233,7 +232,7 @@ fn fill_addressed(words: &mut [u64], params: Params, pass: u32, slice: u32, lane
             made = counter;
             addresses = address_block(params, pass, slice, lane, counter);
         }
-        let word = address_word(addresses, block);
+        let word = address_word(&addresses.words, block);
         fill_with(&mut *words, params, pass, slice, lane, block, word);
         block += 1;
     }

@@ -55,7 +55,7 @@ addresses-is c =
 
 fill-with-requires : tie.Need-fill-with-requires Inv-loop μ-loop
 fill-with-requires c κs =
-    let j = c .before .before in
+    let j = c .before .before .before .before in
     let l = j .before .before .before .loop in
     let start = j .before .before .before .before .before .before .before .before in
     let a = start .args in (
@@ -67,7 +67,7 @@ fill-with-requires c κs =
 
 loop-again : tie.Need-loop-again Inv-loop μ-loop
 loop-again c =
-    let j = c .before .before .before .before .before in
+    let j = c .before .before .before .before .before .before .before in
     let l = j .before .before .before .loop in
     let a = j .before .before .before .before .before .before .before .before .args in (
       omega arith,

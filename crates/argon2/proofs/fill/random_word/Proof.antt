@@ -8,10 +8,10 @@ use Rattle.argon2.proofs.fill.random_word.Tie as tie
 
 returns : tie.Need-returns
 returns c =
-    let a = c .before .before .before .before .before .before .args in
-    let t = sym (c .before .before .before .before .is-addressed .ensures) ∙ c .before .before .before .if1 .taken in
+    let a = c .before .before .before .before .before .before .before .before .args in
+    let t = sym (c .before .before .before .before .before .before .is-addressed .ensures) ∙ c .before .before .before .before .before .if1 .taken in
     c .address-word .ensures
-    ∙ rw (c .before .address-block .ensures, c .before .before .address-counter .ensures)
+    ∙ rw (c .before .before .before .address-block .ensures, c .before .before .before .before .address-counter .ensures)
     (sym (word-addressed (a .params) (a .pass) (a .slice) (a .lane .0) (a .block) (a .words .now) t))
 
 previous-word-requires : tie.Need-previous-word-requires
