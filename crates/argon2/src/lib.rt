@@ -40,15 +40,11 @@ fn begin(
     ad: &[u8],
     words: &mut [u64],
 )
-    requires {
-        ⌜ Lent params (length (now words))
-            × Countable tag (length (now password)) (length (now salt)) (length (now secret)) (length (now ad)) ⌝
-    }
-    ensures {
-        λ _. ⌜ now (words .exit)
-            ≡ startMemory (initialHash params tag (now (password .entry)) (now (salt .entry)) (now (secret .entry)) (now (ad .entry)))
-                (params .lanes) (segment params) (now (words .entry)) ⌝
-    }
+    requires { ⌜ Lent params (length (now words))
+        × Countable tag (length (now password)) (length (now salt)) (length (now secret)) (length (now ad)) ⌝ }
+    ensures { λ _. ⌜ now (words .exit)
+        ≡ startMemory (initialHash params tag (now (password .entry)) (now (salt .entry)) (now (secret .entry)) (now (ad .entry)))
+        (params .lanes) (segment params) (now (words .entry)) ⌝ }
 {
     let h = initial_hash(params, tag, password, salt, secret, ad);
     first_blocks(words, params, h);
@@ -64,14 +60,10 @@ fn complete(
     ad: &[u8],
     words: &mut [u64],
 )
-    requires {
-        ⌜ Lent params (length (now words))
-            × Countable tag (length (now password)) (length (now salt)) (length (now secret)) (length (now ad)) ⌝
-    }
-    ensures {
-        λ _. ⌜ now (words .exit)
-            ≡ filled params tag (now (password .entry)) (now (salt .entry)) (now (secret .entry)) (now (ad .entry)) (now (words .entry)) ⌝
-    }
+    requires { ⌜ Lent params (length (now words))
+        × Countable tag (length (now password)) (length (now salt)) (length (now secret)) (length (now ad)) ⌝ }
+    ensures { λ _. ⌜ now (words .exit)
+        ≡ filled params tag (now (password .entry)) (now (salt .entry)) (now (secret .entry)) (now (ad .entry)) (now (words .entry)) ⌝ }
 {
     begin(params, tag, password, salt, secret, ad, &mut *words);
     fill_all(words, params);
@@ -87,10 +79,8 @@ pub fn hash_password_into_with_memory(
     words: &mut [u64],
     out: &mut [u8],
 ) -> Answer
-    ensures {
-        λ r. ⌜ HashPromise params (now (password .entry)) (now (salt .entry)) (now (secret .entry)) (now (ad .entry)) (now (words .entry))
-            (now (out .entry)) r (now (words .exit)) (now (out .exit)) ⌝
-    }
+    ensures { λ r. ⌜ HashPromise params (now (password .entry)) (now (salt .entry)) (now (secret .entry)) (now (ad .entry)) (now (words .entry))
+        (now (out .entry)) r (now (words .exit)) (now (out .exit)) ⌝ }
 {
     let n = out.len();
     let answer = check_start(
@@ -119,10 +109,8 @@ pub fn fill_memory(
     ad: &[u8],
     words: &mut [u64],
 ) -> Answer
-    ensures {
-        λ r. ⌜ FillMemoryPromise params (now (password .entry)) (now (salt .entry)) (now (secret .entry)) (now (ad .entry)) (now (words .entry))
-            r (now (words .exit)) ⌝
-    }
+    ensures { λ r. ⌜ FillMemoryPromise params (now (password .entry)) (now (salt .entry)) (now (secret .entry)) (now (ad .entry)) (now (words .entry))
+        r (now (words .exit)) ⌝ }
 {
     let answer = check_fill(
         params,
@@ -149,10 +137,8 @@ pub fn start(
     ad: &[u8],
     words: &mut [u64],
 ) -> Started
-    ensures {
-        λ r. ⌜ StartPromise params tag (now (password .entry)) (now (salt .entry)) (now (secret .entry)) (now (ad .entry)) (now (words .entry))
-            r (now (words .exit)) ⌝
-    }
+    ensures { λ r. ⌜ StartPromise params tag (now (password .entry)) (now (salt .entry)) (now (secret .entry)) (now (ad .entry)) (now (words .entry))
+        r (now (words .exit)) ⌝ }
 {
     let answer = check_start(
         params,
