@@ -3,8 +3,7 @@
 use blake2b::hash;
 use blake2b_long::blake2b_long;
 use libc::STDOUT_FILENO;
-ghost use Prim.Native.Nat.{_<_, _≤_};
-ghost use lib.ListN.{length};
+ghost use Prim.Native.Nat.{_<_};
 
 // The lengths of the messages, of the hashes, and of the variable-length hashes.
 const SIZES: [usize; 8] = [0, 1, 127, 128, 129, 255, 256, 1000];
@@ -12,7 +11,22 @@ const SIZES: [usize; 8] = [0, 1, 127, 128, 129, 255, 256, 1000];
 const OUTPUTS: [usize; 6] = [1, 20, 32, 48, 63, 64];
 
 const LONG_OUTPUTS: [usize; 16] = [
-    1, 31, 32, 33, 63, 64, 65, 66, 95, 96, 97, 98, 127, 128, 129, 1024,
+    1,
+    31,
+    32,
+    33,
+    63,
+    64,
+    65,
+    66,
+    95,
+    96,
+    97,
+    98,
+    127,
+    128,
+    129,
+    1024,
 ];
 
 const LONG_SIZE: usize = 72;
@@ -60,26 +74,36 @@ fn write_number(n: usize) {
     io::write_all(STDOUT_FILENO, b" ");
 }
 
-// The hash of the message, with an output of n bytes.
-fn show(message: &[u8], room: &mut [u8], n: usize)
-    requires { ⌜ n ≤ length (now room) ⌝ }
-{
+// The hash of the message, of as many bytes as out has.
+fn hash_line(message: &[u8], out: &mut [u8]) {
     io::write_all(STDOUT_FILENO, b"blake2b ");
     write_number(message.len());
-    write_number(n);
-    hash(message, &mut room[..n]);
-    write_hex(&room[..n]);
+    write_number(out.len());
+    hash(message, out);
+    write_hex(out);
 }
 
-// The variable-length hash of the message, with an output of n bytes.
-fn show_long(message: &[u8], room: &mut [u8], n: usize)
-    requires { ⌜ n ≤ length (now room) ⌝ }
-{
+// The hash of the message, of n bytes, where there is room for them.
+fn show(message: &[u8], room: &mut [u8], n: usize) {
+    if n <= room.len() {
+        hash_line(message, &mut room[..n]);
+    }
+}
+
+// The variable-length hash of the message, of as many bytes as out has.
+fn long_line(message: &[u8], out: &mut [u8]) {
     io::write_all(STDOUT_FILENO, b"blake2b_long ");
     write_number(message.len());
-    write_number(n);
-    blake2b_long(message, &mut room[..n]);
-    write_hex(&room[..n]);
+    write_number(out.len());
+    blake2b_long(message, out);
+    write_hex(out);
+}
+
+// The variable-length hash of the message, of n bytes, where there is room for them.
+fn show_long(message: &[u8], room: &mut [u8], n: usize) {
+    if n <= room.len() {
+        long_line(message, &mut room[..n]);
+    }
 }
 
 // The bytes 0, 1, .., 255, 0, 1, ..
@@ -93,43 +117,40 @@ fn counting() -> [u8; 1000] {
     bytes
 }
 
-// The hashes of one message, one line an output.
-fn outputs(message: &[u8]) {
-    let mut room = [0u8; 64];
+// The hashes of one message, one line an output, in the room that is lent.
+fn outputs(message: &[u8], room: &mut [u8]) {
     let table = OUTPUTS;
     let mut i = 0;
     while i < 6 {
-        let n = table[i];
-        if n <= 64 {
-            show(message, &mut room, n);
-        }
+        show(message, room, table[i]);
         i += 1;
     }
 }
 
-// The hashes of every message.
-fn sizes(bytes: &[u8]) {
-    let table = SIZES;
-    let mut i = 0;
-    while i < 8 {
-        let n = table[i];
-        if n <= bytes.len() {
-            outputs(&bytes[..n]);
-        }
-        i += 1;
-    }
-}
-
-// The variable-length hashes of one message.
-fn long_outputs(message: &[u8]) {
-    let mut room = [0u8; 1024];
+// The variable-length hashes of one message, in the room that is lent.
+fn long_outputs(message: &[u8], room: &mut [u8]) {
     let table = LONG_OUTPUTS;
     let mut i = 0;
     while i < 16 {
-        let n = table[i];
-        if n <= 1024 {
-            show_long(message, &mut room, n);
-        }
+        show_long(message, room, table[i]);
+        i += 1;
+    }
+}
+
+// The first n bytes; all where there are not as many.
+fn front(bytes: &[u8], n: usize) -> &[u8] {
+    if n <= bytes.len() {
+        return &bytes[..n];
+    }
+    bytes
+}
+
+// The hashes of every message that the bytes have, in the room that is lent.
+fn sizes(bytes: &[u8], room: &mut [u8]) {
+    let table = SIZES;
+    let mut i = 0;
+    while i < 8 {
+        outputs(front(bytes, table[i]), room);
         i += 1;
     }
 }
@@ -145,6 +166,7 @@ fn appendix_a() {
 fn main() {
     appendix_a();
     let bytes = counting();
-    sizes(&bytes);
-    long_outputs(&bytes[..LONG_SIZE]);
+    let mut room = [0u8; 1024];
+    sizes(&bytes, &mut room);
+    long_outputs(front(&bytes, LONG_SIZE), &mut room);
 }
