@@ -1,4 +1,5 @@
 pub mod Canonical
+pub mod Completion
 pub mod Confluence
 pub mod Order
 pub mod Rank
