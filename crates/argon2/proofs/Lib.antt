@@ -3,4 +3,5 @@ pub mod Filling
 pub mod Jobs
 pub mod Memory
 pub mod StartMemory
+pub mod Stored
 pub mod Tests

@@ -1,3 +1,4 @@
+pub mod Behind
 pub mod Canonical
 pub mod Completion
 pub mod Confluence
