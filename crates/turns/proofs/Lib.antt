@@ -4,6 +4,7 @@ pub mod Completion
 pub mod Confluence
 pub mod Order
 pub mod Rank
+pub mod Referred
 pub mod Started
 pub mod Steps
 pub mod Sums
