@@ -1,6 +1,6 @@
 -- What an accepted step reads lies behind the job: in pass 0 it was written in this job, and later everything was. For every random word x,
 -- so for all three algorithms. Assumes nothing.
-use mathlib.Core.Path.{_≡_, refl}
+use mathlib.Core.Path.{_≡_, refl, sym, ap, subst}
 use mathlib.Core.Logic.{_≢_}
 use mathlib.Core.Bool.{Bool, true, false, cond}
 use Prim.Native.Nat.{ℕ, _+_, _-_, _*_, _≤_, _<_}
@@ -11,11 +11,12 @@ use borrow.Author.Tests.{eqb-true, eqb-false}
 use Rattle.params.specs.Limits.{slices, segment, laneLength}
 use Rattle.params.specs.declared.Params.{Params}
 use Rattle.params.proofs.Within.{two}
-use Rattle.position.specs.Position.{firstBlock, column, previousColumn, referenceLane, referenceColumn}
+use Rattle.position.specs.Position.{firstBlock, column, index, previousColumn, referenceLane, referenceColumn}
 use Rattle.position.proofs.Referring.{ref-column, ref-own-zero, ref-other-zero}
 use Rattle.argon2.specs.Jobs.{position}
 use Rattle.argon2.specs.declared.job.Job.{Job}
 use Rattle.argon2.proofs.Jobs.{Bounds, inside-bounds, Ready}
+use Rattle.turns.specs.Play.{State, writes}
 use Rattle.turns.proofs.Rank.{rank}
 
 -- in later passes every block of a lane is behind the job
@@ -24,6 +25,23 @@ unfolding rank
 later j a c n b =
     let o : 1 ≤ j .pass = omega arith in
     omega (arith, mul-le-mul-right (laneLength (j .params)) o)
+
+-- a lane's next block, in pass 0, is the one that its step writes
+pub next-is-written : (P : Params) (σ : State) (b c : ℕ) → σ .job .params ≡ P → c ≡ rank (σ .job) b → c < laneLength P → index (segment P) b c ≡ writes σ b
+unfolding rank
+next-is-written P σ b c e q lc =
+    let lc′ : c < laneLength (σ .job .params) = subst (λ (Q : Params). c < laneLength Q) (sym e) lc in
+    let zero′ : σ .job .pass ≡ 0 = go lc′ (eqb (σ .job .pass) 0) refl in
+    let m : σ .job .pass * laneLength (σ .job .params) ≡ 0 * laneLength (σ .job .params) = ap (λ (x : ℕ). x * laneLength (σ .job .params)) zero′ in
+    let at : c ≡ column (segment (σ .job .params)) (σ .job .slice) (position (σ .job) b) = omega arith in
+    (λ i. index (segment (sym e i)) b (at i))
+  where
+    go : c < laneLength (σ .job .params) → (t : Bool) → eqb (σ .job .pass) 0 ≡ t → σ .job .pass ≡ 0
+    go k true t = eqb-true (σ .job .pass) 0 t
+    go k false t =
+        let d : σ .job .pass ≢ 0 = eqb-false (σ .job .pass) 0 t in
+        let o : 1 ≤ σ .job .pass = omega arith in
+        absurd (omega (arith, q, mul-le-mul-right (laneLength (σ .job .params)) o))
 
 module _ (j : Job) (n l : ℕ) (h : Ready j n l) where
   P : Params

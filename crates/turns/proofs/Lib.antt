@@ -2,6 +2,7 @@ pub mod Behind
 pub mod Canonical
 pub mod Completion
 pub mod Confluence
+pub mod Forgotten
 pub mod Order
 pub mod Rank
 pub mod Referred

@@ -6,7 +6,6 @@ use mathlib.Core.Bool.{Bool, true, false, cond, _&&_, _||_, false≢true}
 use mathlib.Core.List.{List, [], _∷_, _++_}
 use Prim.Native.Nat.{ℕ, zero, suc, _+_, _*_, _≤_, _<_}
 use native.Mathlib.Omega.{arith}
-use native.Mathlib.Nat.{mul-le-mul-right}
 use lib.Dec.{eqb, ltb}
 use lib.ListN.{length}
 use borrow.Author.Tests.{eqb-true, eqb-false, eq-eqb, ltb-true, ltb-false}
@@ -23,7 +22,7 @@ use Rattle.argon2.proofs.Jobs.{Bounds, inside-bounds, Ready}
 use Rattle.argon2.proofs.Tests.{or-left, or-right, or-second}
 use Rattle.turns.specs.Play.{State, accepts, step, run, writes, refers, startWrites, written}
 use Rattle.turns.specs.Turns.{noted}
-use Rattle.turns.proofs.Behind.{reference-behind}
+use Rattle.turns.proofs.Behind.{next-is-written, reference-behind}
 use Rattle.turns.proofs.Rank.{rank, rank-step}
 use Rattle.turns.proofs.Started.{answered, before, started-params, started-rank}
 use Rattle.turns.proofs.Steps.{ReadyFor, accepted-ready, step-params, run-params}
@@ -63,23 +62,6 @@ start-among (suc n) s a c h k = go (λ q. start-among n s a c q k) (eqb a n) ref
         (or-left (among (index s a c) (startWrites n s)) (eq-eqb (index s a c) (index s n 1) (λ m. index s (eqb-true a n t m) (one m))))
 
 -- ---- what lies behind the job was written
-
--- a lane's next block, in pass 0, is the one that its step writes
-next-is-written : (P : Params) (σ : State) (b c : ℕ) → σ .job .params ≡ P → c ≡ rank (σ .job) b → c < laneLength P → index (segment P) b c ≡ writes σ b
-unfolding rank
-next-is-written P σ b c e q lc =
-    let lc′ : c < laneLength (σ .job .params) = subst (λ (Q : Params). c < laneLength Q) (sym e) lc in
-    let zero′ : σ .job .pass ≡ 0 = go lc′ (eqb (σ .job .pass) 0) refl in
-    let m : σ .job .pass * laneLength (σ .job .params) ≡ 0 * laneLength (σ .job .params) = ap (λ (x : ℕ). x * laneLength (σ .job .params)) zero′ in
-    let at : c ≡ column (segment (σ .job .params)) (σ .job .slice) (position (σ .job) b) = omega arith in
-    (λ i. index (segment (sym e i)) b (at i))
-  where
-    go : c < laneLength (σ .job .params) → (t : Bool) → eqb (σ .job .pass) 0 ≡ t → σ .job .pass ≡ 0
-    go k true t = eqb-true (σ .job .pass) 0 t
-    go k false t =
-        let d : σ .job .pass ≢ 0 = eqb-false (σ .job .pass) 0 t in
-        let o : 1 ≤ σ .job .pass = omega arith in
-        absurd (omega (arith, q, mul-le-mul-right (laneLength (σ .job .params)) o))
 
 -- every block behind the job is in xs
 abbrev AllIn : Params → List ℕ → Job → Type 0
@@ -206,7 +188,6 @@ module _ (P : Params) (tag : ℕ) (password salt secret ad w : List ℕ) (ok : a
 
   pub referred : (ls : List ℕ) (l : ℕ) → accepts (run σ ls) l ≡ true → Referred ls l
   referred ls l q =
-      let τ : State = run σ ls in
       let e : run σ ls .job .params ≡ P = run-params σ ls ∙ params in
       let h : ReadyFor (run σ ls) l = accepted-ready (run σ ls) l q in
       record {
