@@ -9,3 +9,4 @@ pub mod Referred
 pub mod Started
 pub mod Steps
 pub mod Sums
+pub mod Tag
