@@ -1,5 +1,6 @@
 pub mod Behind
 pub mod Canonical
+pub mod Cases
 pub mod Completion
 pub mod Confluence
 pub mod Forgotten

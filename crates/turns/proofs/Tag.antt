@@ -135,78 +135,66 @@ module _
 
 -- ---- from an accepted start
 
-module _ (P : Params) (tag : ℕ) (password salt secret ad w : List ℕ) (ok : answered P tag password salt secret ad w ≡ 0) where
+module _ (P : Params) (n : ℕ) (password salt secret ad w : List ℕ) (ok : answered P n password salt secret ad w ≡ 0) where
   abbrev σ : State
-  σ = before P tag password salt secret ad w
+  σ = before P n password salt secret ad w
 
-  a : Accepted P tag w
-  a = accepted-start P tag password salt secret ad w ok
+  a : Accepted P n w
+  a = accepted-start P n password salt secret ad w ok
 
-  h : List ℕ
-  h = initialHash P tag password salt secret ad
-
-  state : σ ≡ on P tag (a .numbers) (a .allowed) (initialHash P tag password salt secret ad) w
-  state = started-state P tag password salt secret ad w ok
+  state : σ ≡ on P n (a .numbers) (a .allowed) (initialHash P n password salt secret ad) w
+  state = started-state P n password salt secret ad w ok
 
   -- some list of lanes completes filling
   pub completes : (ls : List ℕ) × (complete (run σ ls .job) ≡ true)
   completes = (
-    rfc P tag (a .numbers) (a .allowed) (initialHash P tag password salt secret ad) w (a .fits) .0,
-    subst (λ (τ : State). complete (run τ (rfc P tag (a .numbers) (a .allowed) (initialHash P tag password salt secret ad) w (a .fits) .0) .job) ≡ true)
-        (sym state) (rfc-complete P tag (a .numbers) (a .allowed) (initialHash P tag password salt secret ad) w (a .fits)),
+    rfc P n (a .numbers) (a .allowed) (initialHash P n password salt secret ad) w (a .fits) .0,
+    subst (λ (τ : State). complete (run τ (rfc P n (a .numbers) (a .allowed) (initialHash P n password salt secret ad) w (a .fits) .0) .job) ≡ true)
+        (sym state) (rfc-complete P n (a .numbers) (a .allowed) (initialHash P n password salt secret ad) w (a .fits)),
   )
 
   module _ (ls : List ℕ) (c : complete (run σ ls .job) ≡ true) where
-    c′ : complete (run (on P tag (a .numbers) (a .allowed) (initialHash P tag password salt secret ad) w) ls .job) ≡ true
+    c′ : complete (run (on P n (a .numbers) (a .allowed) (initialHash P n password salt secret ad) w) ls .job) ≡ true
     c′ = subst (λ (τ : State). complete (run τ ls .job) ≡ true) state c
 
     -- the memory is that of RFC 9106's order
-    pub filled-memory : run σ ls .memory ≡ filled P tag password salt secret ad w
+    pub filled-memory : run σ ls .memory ≡ filled P n password salt secret ad w
     unfolding filled
     filled-memory =
         ap (λ (τ : State). run τ ls .memory) state
-        ∙ complete-memory P tag (a .numbers) (a .allowed) (initialHash P tag password salt secret ad) w (a .fits) ls c′
+        ∙ complete-memory P n (a .numbers) (a .allowed) (initialHash P n password salt secret ad) w (a .fits) ls c′
 
     -- finish leaves that memory, and its tag in the output
-    pub finished-as : (out : List ℕ) → length out ≡ tag
+    pub finished-as : (out : List ℕ) → length out ≡ n
         → finished (run σ ls .job) (run σ ls .memory) out
         ≡ record {
           answer = 0;
-          memory = filled P tag password salt secret ad w;
-          output = tagOf P (length out) (filled P tag password salt secret ad w);
+          memory = filled P n password salt secret ad w;
+          output = tagOf P (length out) (filled P n password salt secret ad w);
         }
     finished-as out e =
         ap (λ (τ : State). finished (run τ ls .job) (run τ ls .memory) out) state
-        ∙ finish-accepted P tag (a .numbers) (a .allowed) (initialHash P tag password salt secret ad) w (a .fits) ls c′ out e
+        ∙ finish-accepted P n (a .numbers) (a .allowed) (initialHash P n password salt secret ad) w (a .fits) ls c′ out e
         ∙ ap {B = Result} (λ (v : List ℕ). record { answer = 0; memory = v; output = tagOf P (length out) v })
         (ap (λ (τ : State). run τ ls .memory) (sym state) ∙ filled-memory)
 
   -- the tag of the inputs, over memory that held anything
-  filled-tag : tagOf P tag (filled P tag password salt secret ad w) ≡ argon2 P tag password salt secret ad
+  filled-tag : tagOf P n (filled P n password salt secret ad w) ≡ argon2 P n password salt secret ad
   unfolding argon2 filled
   filled-tag =
-      same-end P tag (a .numbers) (a .allowed) (initialHash P tag password salt secret ad) w (replicate (blockWords * blocks P) 0) (a .fits)
-      (omega (arith, length-replicate {A = ℕ} (blockWords * blocks P) 0)) tag
+      same-end P n (a .numbers) (a .allowed) (initialHash P n password salt secret ad) w (replicate (blockWords * blocks P) 0) (a .fits)
+      (omega (arith, length-replicate {A = ℕ} (blockWords * blocks P) 0)) n
 
-  -- whichever lanes went first, finish is accepted and gives Argon2 of the inputs
-  pub tag-given : (ls : List ℕ) → complete (run σ ls .job) ≡ true → (out : List ℕ) → length out ≡ tag
+  -- for every memory lent and every list of lanes that completes filling, finish is accepted and gives Argon2 of the inputs
+  pub tag : (ls : List ℕ) → complete (run σ ls .job) ≡ true → (out : List ℕ) → length out ≡ n
       → (finished (run σ ls .job) (run σ ls .memory) out .answer ≡ 0)
-      × (finished (run σ ls .job) (run σ ls .memory) out .output ≡ argon2 P tag password salt secret ad)
-  tag-given ls c out e = (
+      × (finished (run σ ls .job) (run σ ls .memory) out .output ≡ argon2 P n password salt secret ad)
+  tag ls c out e = (
     ap (λ (r : Result). r .answer) (finished-as ls c out e),
     ap (λ (r : Result). r .output) (finished-as ls c out e)
-        ∙ ap (λ (n : ℕ). tagOf P n (filled P tag password salt secret ad w)) e
+        ∙ ap (λ (m : ℕ). tagOf P m (filled P n password salt secret ad w)) e
         ∙ filled-tag,
   )
-
--- for every memory lent and every list of lanes that completes filling, finish gives Argon2 of the inputs
-pub tag : (P : Params) (n : ℕ) (password salt secret ad w : List ℕ) → answered P n password salt secret ad w ≡ 0
-    → (ls : List ℕ) → complete (run (before P n password salt secret ad w) ls .job) ≡ true
-    → (out : List ℕ) → length out ≡ n
-    → (finished (run (before P n password salt secret ad w) ls .job) (run (before P n password salt secret ad w) ls .memory) out .answer ≡ 0)
-    × (finished (run (before P n password salt secret ad w) ls .job) (run (before P n password salt secret ad w) ls .memory) out .output
-    ≡ argon2 P n password salt secret ad)
-tag P n password salt secret ad w ok ls c out e = tag-given P n password salt secret ad w ok ls c out e
 
 -- ---- the whole hash
 
