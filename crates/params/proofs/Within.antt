@@ -5,7 +5,7 @@ use mathlib.Core.List.{[], _∷_}
 use mathlib.Core.Path.{_≡_}
 use native.Mathlib.Nat.{le-div-iff-mul-le}
 use native.Mathlib.Omega.{arith}
-use borrow.Author.Tests.{ltb-false, eqb-false}
+use borrow.Author.Tests.{ltb-false, eqb-false, le-ltb, ne-eqb}
 use Rattle.answer.specs.Answers.{first}
 use Rattle.answer.proofs.Rows.{passed, accepted, passed-front}
 use Rattle.params.specs.Limits.{costRows, rows, tagTooShort, segmentLength, slices, maxLanes, maxMemory}
@@ -30,6 +30,17 @@ within p m t h =
       most = ltb-false maxMemory m (q .1 .1 .1 .0);
       some-passes = omega (arith, eqb-false t 0 (q .1 .1 .1 .1 .0));
     }
+
+-- and the other way: such costs are accepted
+pub within-accepted : {p m t : ℕ} → Within p m t → first (costRows p m t) ≡ 0
+within-accepted {p} {m} {t} w =
+    accepted (costRows p m t) (
+      ne-eqb p 0 (λ e. omega arith),
+      (
+        le-ltb maxLanes p (w .few-lanes),
+        (le-ltb m (2 * slices * p) (w .enough), (le-ltb maxMemory m (w .most), (ne-eqb t 0 (λ e. omega arith), tt))),
+      ),
+    )
 
 pub params-within : (P : Params) → first (rows P) ≡ 0 → Within (P .lanes) (P .memory) (P .passes)
 params-within P h =

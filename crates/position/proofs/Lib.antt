@@ -1,1 +1,10 @@
+pub mod Accepted
+pub mod AddressFree
+pub mod Bound
+pub mod Cases
+pub mod Lane
 pub mod Referring
+pub mod Refers
+pub mod Ring
+pub mod Settled
+pub mod Window

@@ -11,6 +11,7 @@ use lib.Arith.{digits-div, digits-lt}
 use borrow.Author.Tests.{ltb-true, ltb-false, eqb-true, eqb-false, eq-eqb, ne-eqb}
 use Rattle.params.specs.Limits.{slices}
 use Rattle.position.specs.Position.{firstBlock, column, index, previousColumn, referenceLane, finished, area, place, start, referenceColumn}
+use Rattle.position.proofs.Lane.{slice-le}
 
 -- a number that goes at most once round
 mod-once : (n q : ℕ) → n < q + q → ((n % q ≡ n) × (n < q)) ⊎ ((n % q + q ≡ n) × (q ≤ n))
@@ -30,7 +31,7 @@ place-lt a x h = omega arith
 
 module _ (s r sl : ℕ) (two : 2 ≤ s) (four : sl < slices) where
   pub segments : sl * s + s ≤ slices * s
-  segments = omega (arith, mul-le-mul-right s four)
+  segments = slice-le s sl four
 
   finished-zero : eqb r 0 ≡ true → finished s r sl ≡ sl * s
   unfolding finished
@@ -41,7 +42,7 @@ module _ (s r sl : ℕ) (two : 2 ≤ s) (four : sl < slices) where
   finished-later e = ap (λ (t : Bool). cond t (sl * s) (slices * s - s)) e ∙ omega arith
 
   -- but for the very first segment, a finished segment is there
-  finished-some : eqb r 0 && eqb sl 0 ≡ false → s ≤ finished s r sl
+  pub finished-some : eqb r 0 && eqb sl 0 ≡ false → s ≤ finished s r sl
   finished-some h = go (eqb r 0) refl h
     where
       go : (t : Bool) → eqb r 0 ≡ t → t && eqb sl 0 ≡ false → s ≤ finished s r sl
@@ -56,7 +57,7 @@ module _ (s r sl : ℕ) (two : 2 ≤ s) (four : sl < slices) where
     reaches-zero : eqb r 0 ≡ true → (start s r sl + z) % (slices * s) + e ≤ sl * s + u
     unfolding start
     reaches-zero t =
-        let st : start s r sl ≡ 0 = ap (λ (b : Bool). cond (not b && ltb (sl + 1) slices) ((sl + 1) * s) 0) t in
+        let st : start s r sl ≡ 0 = simp t in
         let h : start s r sl + z < slices * s = omega (arith, finished-zero t, segments) in
         omega (arith, mod-eq-of-lt h, finished-zero t)
 
@@ -80,12 +81,12 @@ module _ (s r sl : ℕ) (two : 2 ≤ s) (four : sl < slices) where
         go : (t : Bool) → eqb r 0 ≡ t → (v : Bool) → ltb (sl + 1) slices ≡ v → Goal
         go true t v w = inl (reaches-zero t)
         go false t true w =
-            let st : start s r sl ≡ (sl + 1) * s = ap (λ (b : Bool). cond (not b && ltb (sl + 1) slices) ((sl + 1) * s) 0) t ∙ ap (λ (b : Bool). cond b ((sl + 1) * s) 0) w in
+            let st : start s r sl ≡ (sl + 1) * s = simp (t, w) in
             let st′ : start s r sl ≡ sl * s + s = omega arith in
             let wh : finished s r sl ≡ 3 * s = finished-later t in
             round st′ wh (mod-once (start s r sl + z) (slices * s) (omega (arith, segments)))
         go false t false w =
-            let st : start s r sl ≡ 0 = ap (λ (b : Bool). cond (not b && ltb (sl + 1) slices) ((sl + 1) * s) 0) t ∙ ap (λ (b : Bool). cond b ((sl + 1) * s) 0) w in
+            let st : start s r sl ≡ 0 = simp (t, w) in
             let three : sl ≡ 3 = omega (arith, ltb-false (sl + 1) slices w) in
             let prod : sl * s ≡ 3 * s = ap (λ (b : ℕ). b * s) three in
             let wh : finished s r sl ≡ 3 * s = finished-later t in
@@ -124,6 +125,14 @@ module _
     unfolding referenceLane
     first-own e = ap (λ (t : Bool). cond t l (x / 2 ^ 32 % p)) e
 
+    -- so another lane is referred to only where a segment is finished
+    pub not-first : referenceLane p r sl l x ≢ l → eqb r 0 && eqb sl 0 ≡ false
+    not-first n = go (eqb r 0 && eqb sl 0) refl
+      where
+        go : (t : Bool) → eqb r 0 && eqb sl 0 ≡ t → t ≡ false
+        go true e = absurd (n (first-own e))
+        go false e = refl
+
     -- the area is at least 1, in every slice, for the own lane and any other
     pub area-own : (1 ≤ area s r sl k true) × (area s r sl k true + 1 ≡ finished s r sl + k)
     unfolding area
@@ -138,13 +147,14 @@ module _
 
     pub area-other : referenceLane p r sl l x ≢ l → (1 ≤ area s r sl k false) × (area s r sl k false ≤ finished s r sl)
     unfolding area
-    area-other n = go (eqb r 0 && eqb sl 0) refl (eqb k 0)
+    area-other n = go (eqb k 0) refl
       where
-        go : (t : Bool) → eqb r 0 && eqb sl 0 ≡ t → (v : Bool)
-            → (1 ≤ finished s r sl - cond v 1 0) × (finished s r sl - cond v 1 0 ≤ finished s r sl)
-        go true e v = absurd (n (first-own e))
-        go false e true = (omega (arith, finished-some s r sl two four e), omega arith)
-        go false e false = (omega (arith, finished-some s r sl two four e), omega arith)
+        some : s ≤ finished s r sl
+        some = finished-some s r sl two four (not-first n)
+
+        go : (v : Bool) → eqb k 0 ≡ v → (1 ≤ area s r sl k false) × (area s r sl k false ≤ finished s r sl)
+        go true e = rw e (omega (arith, some), omega arith)
+        go false e = rw e (omega (arith, some), omega arith)
 
     column-is : (own : Bool) → eqb (referenceLane p r sl l x) l ≡ own
         → referenceColumn p s r sl l k x ≡ (start s r sl + place (area s r sl k own) x) % (slices * s)

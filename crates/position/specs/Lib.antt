@@ -1,3 +1,4 @@
 pub mod Position
 pub mod Address
+pub mod Window
 pub mod Promises

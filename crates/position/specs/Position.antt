@@ -15,9 +15,13 @@ firstBlock r sl = cond (eqb r 0 && eqb sl 0) 2 0
 abbrev pub column : ℕ → ℕ → ℕ → ℕ
 column s sl k = sl * s + k
 
--- the number in memory of a lane's block: lane times lane length plus column
+-- "The job": the number in memory of a lane's block, where a lane has q blocks: lane times lane length plus column
+abbrev pub inMemory : ℕ → ℕ → ℕ → ℕ
+inMemory q l c = l * q + c
+
+-- and where a lane has segments of s blocks
 abbrev pub index : ℕ → ℕ → ℕ → ℕ
-index s l c = l * (slices * s) + c
+index s l c = inMemory (slices * s) l c
 
 -- "Random word": the column of the block before; before a lane's first block, in a later pass, stands its last
 unfoldable pub previousColumn : ℕ → ℕ → ℕ → ℕ

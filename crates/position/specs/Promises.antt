@@ -3,11 +3,16 @@ use Prim.Native.Nat.{ℕ}
 use mathlib.Core.Path.{_≡_}
 use Rattle.answer.specs.Answers.{number, first, ifAccepted}
 use Rattle.params.specs.Limits.{segmentLength}
-use Rattle.position.specs.Position.{firstBlock, index, referenceLane, referenceColumn, positionRows}
+use Rattle.position.specs.Position.{firstBlock, inMemory, referenceLane, referenceColumn, positionRows}
+use Rattle.position.specs.declared.BlockNumber.{BlockNumber}
+use Rattle.position.specs.declared.LaneNumber.{LaneNumber}
 use Rattle.position.specs.declared.Reference.{Reference}
 
 pub record FirstBlockPromise (r sl b : ℕ) : Type 0 where
   pub result : b ≡ firstBlock r sl
+
+pub record InMemoryPromise (q : ℕ) (l : LaneNumber) (c : BlockNumber) (n : ℕ) : Type 0 where
+  pub result : n ≡ inMemory q (l .0) (c .0)
 
 -- accepted, the reference lane and the block within that lane; refused, zeros
 pub record ReferencePromise (p m t r sl l k x : ℕ) (o : Reference) : Type 0 where

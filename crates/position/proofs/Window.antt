@@ -1,0 +1,195 @@
+-- `window`: document 01's area is the size of RFC 9106's set W, and its reference block is the entry zz of W. Every part of W is a ring of
+-- columns, and so is W: it begins at `start` and has `area` columns. Assumes nothing.
+use mathlib.Core.Bool.{Bool, true, false, cond, not, _&&_}
+use mathlib.Core.List.{List, [], _∷_, _++_}
+use mathlib.Core.Path.{_≡_, refl, sym, ap, _∙_}
+use Prim.Native.Nat.{ℕ, zero, suc, _+_, _-_, _*_, _/_, _%_, _^_, _≤_, _<_}
+use native.Mathlib.Nat.{mod-eq-of-lt, add-mul-mod-self-right, add-mod-right}
+use native.Mathlib.Omega.{arith}
+use lib.Dec.{eqb, ltb}
+use lib.ListN.{length, getD}
+use borrow.Author.Tests.{eqb-true, eqb-false, ne-eqb, ltb-true, ltb-false, lt-ltb, le-ltb}
+use Rattle.params.specs.Limits.{slices}
+use Rattle.position.specs.Position.{column, previousColumn, referenceLane, finished, area, place, start, referenceColumn}
+use Rattle.position.specs.Window.{computedSlices, last, blocksOf, finishedBlocks, excluding, currentBlocks, butLast, W, zz}
+use Rattle.position.proofs.Accepted.{Filled}
+use Rattle.position.proofs.Bound.{own, area-bound, share-lt}
+use Rattle.position.proofs.Ring.{last-table, excluding-last, ring, length-ring, getD-ring, ring-append, ring-butLast, ring-round, segment-ring, blocks-ring}
+use Rattle.word.specs.Table.{table}
+use Rattle.word.proofs.Table.{length-table, getD-table}
+
+pub record IsWindow (p s r sl l k x : ℕ) : Type 0 where
+  pub area-is : area s r sl k (own p r sl l x) ≡ length (W s r sl k (own p r sl l x))
+  pub inside : zz (length (W s r sl k (own p r sl l x))) (x % 2 ^ 32) < length (W s r sl k (own p r sl l x))
+  pub block-is : referenceColumn p s r sl l k x
+      ≡ getD (W s r sl k (own p r sl l x)) (zz (length (W s r sl k (own p r sl l x))) (x % 2 ^ 32)) 0
+
+-- a table's last entry
+snoc : (f : ℕ → ℕ) (j : ℕ) → table f (suc j) ≡ table f j ++ (f j ∷ [])
+unfolding table
+snoc f zero = refl
+snoc f (suc j) = ap (λ (l : List ℕ). f 0 ∷ l) (snoc (λ i. f (suc i)) j)
+
+own-count : (n k : ℕ) → n + (k - 1) - cond (eqb k 0) 1 0 ≡ n + k - 1
+own-count n zero = omega arith
+own-count n (suc j) =
+    ap (λ (t : Bool). n + (suc j - 1) - cond t 1 0) (ne-eqb (suc j) 0 (λ e. omega arith)) ∙ omega arith
+
+-- ---- start and finished, from the segments computed so far
+
+-- whole turns round the lane go away
+turns : (a b s : ℕ) → (a + b * slices) * s % (slices * s) ≡ a * s % (slices * s)
+turns a b s =
+    let e : (a + b * slices) * s ≡ a * s + b * (slices * s) = omega arith in
+    ap (λ (z : ℕ). z % (slices * s)) e ∙ add-mul-mod-self-right (a * s) b (slices * s)
+
+module _ (s r sl : ℕ) (four : sl < slices) where
+  start-zero : eqb r 0 ≡ true → start s r sl ≡ 0
+  unfolding start
+  start-zero e = simp e
+
+  start-next : eqb r 0 ≡ false → sl + 1 < slices → start s r sl ≡ (sl + 1) * s
+  unfolding start
+  start-next e h = simp (e, lt-ltb (sl + 1) slices h)
+
+  start-last : eqb r 0 ≡ false → slices ≤ sl + 1 → start s r sl ≡ 0
+  unfolding start
+  start-last e h = simp (e, le-ltb (sl + 1) slices h)
+
+  finished-at : (t : Bool) → eqb r 0 ≡ t → finished s r sl ≡ cond t (sl * s) (slices * s - s)
+  unfolding finished
+  finished-at t e = ap (λ (t : Bool). cond t (sl * s) (slices * s - s)) e
+
+  -- the segments computed before this one, and how many of them are not among the last three
+  computed : ℕ
+  computed = slices * r + sl
+
+  older : ℕ
+  older = computed - (slices - 1)
+
+  start-is : older * s % (slices * s) ≡ start s r sl % (slices * s)
+  unfolding computed older
+  start-is = go (eqb r 0) refl (ltb (sl + 1) slices) refl
+    where
+      go : (t : Bool) → eqb r 0 ≡ t → (u : Bool) → ltb (sl + 1) slices ≡ u → older * s % (slices * s) ≡ start s r sl % (slices * s)
+      go true e u h =
+          let z : r ≡ 0 = eqb-true r 0 e in
+          let o : older ≡ 0 = omega arith in
+          let n : older * s ≡ start s r sl = ap (λ (n : ℕ). n * s) o ∙ omega (arith, start-zero e) in
+          ap (λ (n : ℕ). n % (slices * s)) n
+      go false e true h =
+          let z : r ≡ 0 → ⊥ = eqb-false r 0 e in
+          let o : older ≡ sl + 1 + (r - 1) * slices = omega arith in
+          ap (λ (n : ℕ). n * s % (slices * s)) o ∙ turns (sl + 1) (r - 1) s ∙ ap (λ (n : ℕ). n % (slices * s)) (sym (start-next e (ltb-true (sl + 1) slices h)))
+      go false e false h =
+          let z : r ≡ 0 → ⊥ = eqb-false r 0 e in
+          let three : slices ≤ sl + 1 = ltb-false (sl + 1) slices h in
+          let o : older ≡ 0 + r * slices = omega arith in
+          let n : 0 * s ≡ start s r sl = omega (arith, start-last e (ltb-false (sl + 1) slices h)) in
+          ap (λ (n : ℕ). n * s % (slices * s)) o ∙ turns 0 r s ∙ ap (λ (n : ℕ). n % (slices * s)) n
+
+  finished-is : (computed - older) * s ≡ finished s r sl
+  unfolding computed older
+  finished-is = go (eqb r 0) refl
+    where
+      go : (t : Bool) → eqb r 0 ≡ t → (computed - older) * s ≡ finished s r sl
+      go true e =
+          let z : r ≡ 0 = eqb-true r 0 e in
+          let o : computed - older ≡ sl = omega arith in
+          ap (λ (n : ℕ). n * s) o ∙ sym (finished-at true e)
+      go false e =
+          let z : r ≡ 0 → ⊥ = eqb-false r 0 e in
+          let o : computed - older ≡ slices - 1 = omega arith in
+          ap (λ (n : ℕ). n * s) o ∙ omega (arith, finished-at false e)
+
+  -- behind the finished segments comes this one
+  behind : sl * s % (slices * s) ≡ (start s r sl + finished s r sl) % (slices * s)
+  behind = go (eqb r 0) refl (ltb (sl + 1) slices) refl
+    where
+      go : (t : Bool) → eqb r 0 ≡ t → (u : Bool) → ltb (sl + 1) slices ≡ u → sl * s % (slices * s) ≡ (start s r sl + finished s r sl) % (slices * s)
+      go true e u h =
+          let n : sl * s ≡ start s r sl + finished s r sl = omega (arith, start-zero e, finished-at true e) in
+          ap (λ (n : ℕ). n % (slices * s)) n
+      go false e true h =
+          let n : sl * s + slices * s ≡ start s r sl + finished s r sl = omega (arith, start-next e (ltb-true (sl + 1) slices h), finished-at false e) in
+          sym (add-mod-right (sl * s) (slices * s)) ∙ ap (λ (n : ℕ). n % (slices * s)) n
+      go false e false h =
+          let three : sl ≡ slices - 1 = omega (arith, ltb-false (sl + 1) slices h) in
+          let m : sl * s ≡ (slices - 1) * s = ap (λ (n : ℕ). n * s) three in
+          let n : sl * s ≡ start s r sl + finished s r sl = omega (arith, start-last e (ltb-false (sl + 1) slices h), finished-at false e) in
+          ap (λ (n : ℕ). n % (slices * s)) n
+
+  -- ---- the parts of W
+
+  finished-ring : finishedBlocks s r sl ≡ ring s (start s r sl) (finished s r sl)
+  unfolding computedSlices computed older
+  finished-ring =
+      ap (λ (l : List ℕ). blocksOf s l) (last-table (λ n. n % slices) computed (slices - 1))
+      ∙ blocks-ring s older (computed - older)
+      ∙ ap (λ (n : ℕ). ring s (older * s) n) finished-is
+      ∙ ring-round s (older * s) (start s r sl) (finished s r sl) start-is
+
+  before : (j : ℕ) → previousColumn s sl (suc j) ≡ column s sl j
+  unfolding previousColumn
+  before j =
+      ap (λ (t : Bool). cond t (slices * s - 1) (column s sl (suc j) - 1)) (ne-eqb (column s sl (suc j)) 0 (λ e. omega arith))
+      ∙ omega arith
+
+  current-ring : (k : ℕ) → k ≤ s → currentBlocks s sl k ≡ ring s (start s r sl + finished s r sl) (k - 1)
+  unfolding excluding table ring previousColumn
+  current-ring zero inside = refl
+  current-ring (suc j) inside =
+      let f : ℕ → ℕ = λ i. column s sl i in
+      let last-one : table f (suc j) ≡ table f j ++ (f j ∷ []) = snoc f j in
+      let previous : previousColumn s sl (suc j) ≡ f j = before j in
+      let this : sl % slices ≡ sl = mod-eq-of-lt four in
+      let count : j ≡ suc j - 1 = omega arith in
+      ap (λ (l : List ℕ). excluding (previousColumn s sl (suc j)) l) last-one
+      ∙ ap (λ (n : ℕ). excluding n (table f j ++ (f j ∷ []))) previous
+      ∙ excluding-last (f j) (table f j) (λ i b e. omega (arith, sym (getD-table f j i (omega (arith, length-table f j))) ∙ e, length-table f j))
+      ∙ ap (λ (n : ℕ). table (λ i. column s n i) j) (sym this)
+      ∙ segment-ring s sl j (omega arith)
+      ∙ ring-round s (sl * s) (start s r sl + finished s r sl) j behind
+      ∙ ap (λ (n : ℕ). ring s (start s r sl + finished s r sl) n) count
+
+  -- ---- W itself
+
+  own-ring : (k : ℕ) → k ≤ s → finishedBlocks s r sl ++ currentBlocks s sl k ≡ ring s (start s r sl) (finished s r sl + (k - 1))
+  own-ring k inside =
+      ap (λ (l : List ℕ). l ++ currentBlocks s sl k) finished-ring
+      ∙ ap (λ (l : List ℕ). ring s (start s r sl) (finished s r sl) ++ l) (current-ring k inside)
+      ∙ ring-append s (start s r sl) (finished s r sl) (k - 1)
+
+  -- the last one is excluded at a segment's first block
+  dropped : (w : List ℕ) (k n m : ℕ) → w ≡ ring s (start s r sl) n → n - cond (eqb k 0) 1 0 ≡ m
+      → cond (eqb k 0) (butLast w) w ≡ ring s (start s r sl) m
+  dropped w k n m e h = go (eqb k 0) h
+    where
+      go : (t : Bool) → n - cond t 1 0 ≡ m → cond t (butLast w) w ≡ ring s (start s r sl) m
+      go true h =
+          ap (λ (l : List ℕ). butLast l) e ∙ ring-butLast s (start s r sl) n ∙ ap (λ (z : ℕ). ring s (start s r sl) z) h
+      go false h =
+          let all : n ≡ m = omega arith in
+          e ∙ ap (λ (z : ℕ). ring s (start s r sl) z) all
+
+  W-ring : (k : ℕ) (own : Bool) → k ≤ s → W s r sl k own ≡ ring s (start s r sl) (area s r sl k own)
+  unfolding W area
+  W-ring k true inside =
+      dropped (finishedBlocks s r sl ++ currentBlocks s sl k) k (finished s r sl + (k - 1)) (finished s r sl + k - 1) (own-ring k inside) (own-count (finished s r sl) k)
+  W-ring k false inside =
+      dropped (finishedBlocks s r sl) k (finished s r sl) (finished s r sl - cond (eqb k 0) 1 0) finished-ring refl
+
+module _ {p s t r sl l k : ℕ} (two : 2 ≤ s) (f : Filled p s t r sl l k) (x : ℕ) where
+  pub window : IsWindow p s r sl l k x
+  unfolding zz referenceColumn place
+  window =
+      let o : Bool = own p r sl l x in
+      let a : ℕ = area s r sl k o in
+      let w : W s r sl k o ≡ ring s (start s r sl) a = W-ring s r sl (f .slice) k o (omega arith) in
+      let size : length (W s r sl k o) ≡ a = ap length w ∙ length-ring s (start s r sl) a in
+      let within : zz a (x % 2 ^ 32) < a = omega (arith, share-lt a x (area-bound two f x .some)) in
+      record {
+        area-is = sym size;
+        inside = rw size within;
+        block-is = rw (size, w) (sym (getD-ring s (start s r sl) a (zz a (x % 2 ^ 32)) within));
+      }
