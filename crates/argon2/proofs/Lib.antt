@@ -1,7 +1,9 @@
 pub mod Commute
 pub mod Filling
 pub mod Jobs
+pub mod Joined
 pub mod Memory
+pub mod Standing
 pub mod StartMemory
 pub mod Stored
 pub mod Tests

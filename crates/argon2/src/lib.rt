@@ -1,4 +1,5 @@
 // Argon2 (RFC 9106), one block a call, in memory that the caller lends.
+mod checks;
 mod job;
 
 pub use job::Job;
