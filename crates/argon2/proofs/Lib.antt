@@ -1,5 +1,6 @@
 pub mod Commute
 pub mod Filling
+pub mod HashInput
 pub mod Jobs
 pub mod Joined
 pub mod Memory

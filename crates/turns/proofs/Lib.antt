@@ -1,3 +1,4 @@
+pub mod Addresses
 pub mod Behind
 pub mod Canonical
 pub mod Cases
