@@ -1,5 +1,7 @@
+pub mod Answered
+pub mod Filling
+pub mod Inner
 pub mod Jobs
-pub mod Joined
 pub mod Memory
 pub mod Standing
 pub mod Tests
