@@ -13,10 +13,10 @@ use Rattle.word.proofs.Table.{length-table}
 use Rattle.block.specs.Block.{blockWords, xors, compress, columns, rows}
 use Rattle.params.specs.Limits.{slices, segment, laneLength, blocks}
 use Rattle.params.specs.declared.Params.{Params}
-use Rattle.position.specs.Position.{column, index, previousColumn}
+use Rattle.position.specs.Position.{column, index, previousColumn, reference}
 use Rattle.position.proofs.Referring.{segments, index-lt}
-use Rattle.argon2.specs.Filling.{currentIndex, previousIndex, referenceIndex, newBlock, overwrites, storedBlock, fill}
-use Rattle.argon2.specs.Memory.{block}
+use Rattle.argon2.specs.Filling.{currentIndex, previousIndex, wordFor, referenceIndex, newBlock, overwrites, storedBlock, fill}
+use Rattle.argon2.specs.Memory.{block, put}
 use Rattle.argon2.proofs.Memory.{length-put, block-put-same, put-outside}
 
 -- a block of s blocks in a slice, and the one before it, lie in the lane
@@ -77,3 +77,11 @@ module _
     pub fill-outside : (i : ℕ) → i / blockWords ≢ currentIndex P sl l k → getD (fill P r sl l k w) i 0 ≡ getD w i 0
     unfolding fill
     fill-outside i n = put-outside (currentIndex P sl l k) (storedBlock P r sl l k w) w room (stored-length P r sl l k w) i n
+
+-- the memory once a block is filled, made from its parts
+module _ (P : Params) (r sl l k : ℕ) (w : List ℕ) (x before from at : ℕ) (previous referred new : List ℕ) where
+  pub fill-parts : x ≡ wordFor P r sl l k w → before ≡ previousIndex P sl l k → from ≡ reference (P .lanes) (segment P) r sl l k x
+      → at ≡ currentIndex P sl l k → previous ≡ block before w → referred ≡ block from w → new ≡ compress previous referred
+      → put at (cond (overwrites P r) new (xors (block at w) new)) w ≡ fill P r sl l k w
+  unfolding fill storedBlock newBlock
+  fill-parts ex eb ef ea ep er en = rw (en, ep, er, ea, eb, ef, ex)

@@ -1,8 +1,9 @@
+pub mod Answered
 pub mod Commute
 pub mod Filling
 pub mod HashInput
+pub mod Inner
 pub mod Jobs
-pub mod Joined
 pub mod Memory
 pub mod Standing
 pub mod StartMemory

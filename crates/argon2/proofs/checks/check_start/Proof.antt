@@ -3,7 +3,7 @@ use mathlib.Core.List.{_++_}
 use borrow.Author.Needs.{needs}
 use Rattle.params.specs.Limits.{rows}
 use Rattle.argon2.specs.Rows.{extraRows, outputRows, inputRows}
-use Rattle.argon2.proofs.Joined.{joined}
+use Rattle.argon2.proofs.Answered.{joined}
 use Rattle.argon2.proofs.checks.check_start.Statement.{statement}
 use Rattle.argon2.proofs.checks.check_start.Tie as tie
 
