@@ -5,6 +5,7 @@ pub mod HashInput
 pub mod Inner
 pub mod Jobs
 pub mod Memory
+pub mod Settled
 pub mod Standing
 pub mod StartMemory
 pub mod Stored
