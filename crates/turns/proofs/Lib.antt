@@ -8,6 +8,7 @@ pub mod Forgotten
 pub mod Order
 pub mod Rank
 pub mod Referred
+pub mod Settled
 pub mod Started
 pub mod Steps
 pub mod Sums

@@ -19,6 +19,9 @@ pub record State : Type 0 where
   pub job : Job
   pub memory : List ℕ
 
+abbrev pub on : Job → List ℕ → State
+on j w = record { job = j; memory = w }
+
 -- what start leaves
 unfoldable pub begun : Params → ℕ → List ℕ → List ℕ → List ℕ → List ℕ → List ℕ → State
 begun P tag password salt secret ad w =
