@@ -1,22 +1,24 @@
 -- What is stored is made of the previous block, the reference block and, in later passes alone, what stood there; and filling leaves every
 -- other block as it was. Assumes nothing.
-use mathlib.Core.Path.{_≡_, refl, ap, _∙_}
+use mathlib.Core.Path.{_≡_, refl, sym, ap, _∙_}
 use mathlib.Core.Logic.{_≢_}
-use mathlib.Core.Bool.{Bool, true, false, cond, _||_}
+use mathlib.Core.Bool.{Bool, true, false, cond, true≢false}
 use mathlib.Core.List.{List}
 use Prim.Native.Nat.{ℕ, _+_, _*_, _≤_, _<_}
-use lib.Dec.{eqb}
 use lib.ListN.{length, getD}
-use borrow.Author.Tests.{eqb-false}
 use Rattle.block.specs.Block.{blockWords, compress, xors}
-use Rattle.params.specs.Limits.{slices, segment, blocks, v10}
+use Rattle.params.specs.Limits.{slices, segment, blocks}
 use Rattle.params.specs.declared.Params.{Params}
 use Rattle.position.specs.Address.{randomWord}
 use Rattle.position.specs.Position.{reference}
-use Rattle.argon2.specs.Filling.{currentIndex, previousIndex, wordFor, referenceIndex, newBlock, storedBlock, fill}
+use Rattle.argon2.specs.Filling.{currentIndex, previousIndex, wordFor, referenceIndex, newBlock, overwrites, storedBlock, fill}
 use Rattle.argon2.specs.Memory.{block}
 use Rattle.argon2.proofs.Filling.{room, stored-length}
 use Rattle.argon2.proofs.Memory.{block-put-other}
+
+-- pass 0 overwrites, whatever the version
+pub overwrites-zero : (P : Params) → overwrites P 0 ≡ true
+overwrites-zero P = refl
 
 -- two memories that agree on the blocks that are read, and in later passes on what stood there
 module _
@@ -37,16 +39,16 @@ module _
     pub same-stored : (r ≢ 0 → block (currentIndex P sl l k) v ≡ block (currentIndex P sl l k) w) → storedBlock P r sl l k v ≡ storedBlock P r sl l k w
     unfolding storedBlock
     same-stored stood =
-        ap (λ (b : List ℕ). cond (eqb r 0 || eqb (P .version) v10) b (xors (block (currentIndex P sl l k) v) b)) same-new
-        ∙ go (eqb r 0) refl
+        ap (λ (b : List ℕ). cond (overwrites P r) b (xors (block (currentIndex P sl l k) v) b)) same-new
+        ∙ go (overwrites P r) refl
       where
-        go : (t : Bool) → eqb r 0 ≡ t
-            → cond (t || eqb (P .version) v10) (newBlock P r sl l k w) (xors (block (currentIndex P sl l k) v) (newBlock P r sl l k w))
-            ≡ cond (t || eqb (P .version) v10) (newBlock P r sl l k w) (xors (block (currentIndex P sl l k) w) (newBlock P r sl l k w))
+        go : (t : Bool) → overwrites P r ≡ t
+            → cond t (newBlock P r sl l k w) (xors (block (currentIndex P sl l k) v) (newBlock P r sl l k w))
+            ≡ cond t (newBlock P r sl l k w) (xors (block (currentIndex P sl l k) w) (newBlock P r sl l k w))
         go true e = refl
         go false e =
-            ap (λ (b : List ℕ). cond (eqb (P .version) v10) (newBlock P r sl l k w) (xors b (newBlock P r sl l k w)))
-            (stood (eqb-false r 0 e))
+            ap (λ (b : List ℕ). xors b (newBlock P r sl l k w))
+            (stood (λ z. true≢false (sym (overwrites-zero P) ∙ ap (overwrites P) (sym z) ∙ e)))
 
 -- every other block is as it was
 pub fill-other : (P : Params) → 2 ≤ segment P → (r sl l k : ℕ) → sl < slices → l < P .lanes → k < segment P
