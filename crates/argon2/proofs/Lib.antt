@@ -1,10 +1,10 @@
 pub mod Answered
 pub mod Commute
 pub mod Filling
-pub mod HashInput
 pub mod Inner
 pub mod Jobs
 pub mod Memory
+pub mod MemoryCost
 pub mod Settled
 pub mod Standing
 pub mod StartMemory

@@ -18,7 +18,7 @@ use Rattle.position.proofs.Cases.{cases as position-cases}
 use Rattle.argon2.specs.Calls.{started}
 use Rattle.argon2.specs.Initial.{hashInput}
 use Rattle.argon2.specs.Jobs.{complete}
-use Rattle.argon2.proofs.HashInput.{memory-hashed}
+use Rattle.argon2.proofs.MemoryCost.{memory-hashed}
 use Rattle.turns.specs.Play.{run, acceptedSteps}
 use Rattle.turns.proofs.Completion.{count}
 use Rattle.turns.proofs.Started.{answered, before}
