@@ -1,1 +1,3 @@
 pub mod Blake2b
+pub mod Promises
+pub mod Stream

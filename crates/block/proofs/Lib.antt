@@ -1,3 +1,6 @@
+pub mod Laws
 pub mod Line
 pub mod Mixing
 pub mod Settled
+pub mod Stepping
+pub mod Vectors

@@ -1,14 +1,13 @@
 -- Lines of registers, once for rows and columns: where a line's words stand, a line laid down word by word, and line after line.
 -- A block every line of which is P of another's is that block's `rows`, or its `columns`. Assumes nothing.
 use Prim.Native.Nat.{ℕ, _+_, _*_, _-_, _%_, _/_, _<_, _≤_}
-use mathlib.Core.Path.{_≡_, refl, ap, sym, _∙_, subst, subst⁻¹}
+use mathlib.Core.Path.{_≡_, ap, ap₂, sym, _∙_, subst⁻¹}
 use mathlib.Core.Logic.{_⊎_, ⊎-elim}
 use mathlib.Core.List.{List}
 use native.Mathlib.Nat.{eq-or-lt-of-le, mul-le-mul-left, eq-of-mul-eq-mul-left, one-mul}
 use native.Mathlib.Omega.{arith}
 use lib.ListN.{length, getD, set, length-set}
 use lib.Seq.{getD-set-same, getD-set-other}
-use Rattle.word.specs.Table.{table}
 use Rattle.word.proofs.Table.{length-table, getD-table, is-table, same-table}
 use Rattle.block.specs.Block.{blockWords, registerWords, side, rowWords, place, registers, permutation, quarterAt, rows, columns}
 use Rattle.block.specs.Line.{Inside, Laid, Cut, into-rows, into-columns, Permuted}
@@ -114,16 +113,56 @@ word-of {b} {s} q r i k n p hi hk e =
     ∙ sym (getD-table _ rowWords k hk)
     ∙ ap (λ (l : List ℕ). getD l k 0) (p .each i hi)
 
-pub are-rows : (q r : List ℕ) → Permuted side 1 side q r → r ≡ rows q
-unfolding rows
-are-rows q r p =
+-- P on every line of a cut
+abbrev pub along : {b s : ℕ} → Cut b s → List ℕ → List ℕ
+along into-rows q = rows q
+along into-columns q = columns q
+
+-- a block every line of which is P of that line of q
+pub are-lines : {b s : ℕ} {q r : List ℕ} → Permuted b s side q r → (cut : Cut b s) → r ≡ along cut q
+unfolding rows columns
+are-lines {q = q} {r = r} p into-rows =
     is-table _ blockWords r (p .long)
     (λ n h. word-of q r (n / rowWords) (n % rowWords) n p (omega arith) (omega arith) (omega arith))
-
-pub are-columns : (q r : List ℕ) → Permuted 1 side side q r → r ≡ columns q
-unfolding columns
-are-columns q r p =
+are-lines {q = q} {r = r} p into-columns =
     is-table _ blockWords r (p .long)
     (λ n h.
     word-of q r (n % rowWords / registerWords) (registerWords * (n / rowWords) + n % registerWords) n p (omega arith) (omega arith) (omega arith)
-    ∙ ap (λ (i : ℕ). getD (permutation (registers i side q)) (registerWords * (n / rowWords) + n % registerWords) 0) (one-mul (n % rowWords / registerWords)))
+    ∙ ap (λ (i : ℕ). getD (permutation (registers i side q)) (registerWords * (n / rowWords) + n % registerWords) 0)
+    (one-mul (n % rowWords / registerWords)))
+
+-- and the other way: each row of `rows` is P of that row, each column of `columns` P of that column
+permuted : (b s : ℕ) (q r : List ℕ) → length r ≡ blockWords
+    → ((i k : ℕ) → i < side → k < rowWords → getD r (place (b * i) s k) 0 ≡ getD (permutation (registers (b * i) s q)) k 0)
+    → Permuted b s side q r
+unfolding registers
+permuted b s q r e f =
+    record {
+      long = e;
+      each = λ i h.
+          sym (is-table _ rowWords _ (length-permutation _ ∙ length-registers (b * i) s q) (λ k g. sym (f i k h g)));
+    }
+
+row-place : (i k : ℕ) → i < side → k < rowWords → (place (side * i) 1 k / rowWords ≡ i) × (place (side * i) 1 k % rowWords ≡ k)
+row-place i k hi hk = (omega arith, omega arith)
+
+column-place : (i k : ℕ) → i < side → k < rowWords
+    → (place (1 * i) side k % rowWords / registerWords ≡ 1 * i)
+    × (registerWords * (place (1 * i) side k / rowWords) + place (1 * i) side k % registerWords ≡ k)
+column-place i k hi hk = (omega arith, omega arith)
+
+pub rows-permuted : (q : List ℕ) → Permuted side 1 side q (rows q)
+unfolding rows
+rows-permuted q =
+    permuted side 1 q _ (length-table _ blockWords)
+    (λ i k hi hk.
+    getD-table _ blockWords _ (place-lt _ _ k (inside i into-rows hi) hk)
+    ∙ ap₂ (λ (m n : ℕ). getD (permutation (registers (side * m) 1 q)) n 0) (row-place i k hi hk .0) (row-place i k hi hk .1))
+
+pub columns-permuted : (q : List ℕ) → Permuted 1 side side q (columns q)
+unfolding columns
+columns-permuted q =
+    permuted 1 side q _ (length-table _ blockWords)
+    (λ i k hi hk.
+    getD-table _ blockWords _ (place-lt _ _ k (inside i into-columns hi) hk)
+    ∙ ap₂ (λ (m n : ℕ). getD (permutation (registers m side q)) n 0) (column-place i k hi hk .0) (column-place i k hi hk .1))

@@ -1,6 +1,4 @@
 // Words of 64 bits: rotation, and the little-endian order of their bytes.
-ghost use mathlib.Core.Path.{_≡_};
-ghost use Prim.Native.Nat.{_+_, _≤_};
 ghost use Rattle.word.specs.Promises.{RotatePromise, FromLePromise, LoadPromise, ToLePromise};
 
 // The word x, rotated right by 32 bits.
@@ -71,18 +69,6 @@ pub fn load(s: &[u8], at: usize) -> u64
     )
 }
 
-// The four bytes of x, the lowest first.
-pub fn to_le32(x: u32) -> [u8; 4]
-    ensures { λ r. ⌜ ToLePromise 4 x r ⌝ }
-{
-    [
-        (x % 256) as u8,
-        (x / 256 % 256) as u8,
-        (x / 256 / 256 % 256) as u8,
-        (x / 256 / 256 / 256 % 256) as u8,
-    ]
-}
-
 // The eight bytes of x, the lowest first.
 pub fn to_le64(x: u64) -> [u8; 8]
     ensures { λ r. ⌜ ToLePromise 8 x r ⌝ }
@@ -97,4 +83,12 @@ pub fn to_le64(x: u64) -> [u8; 8]
         (x / 256 / 256 / 256 / 256 / 256 / 256 % 256) as u8,
         (x / 256 / 256 / 256 / 256 / 256 / 256 / 256 % 256) as u8,
     ]
+}
+
+// The four bytes of x, the lowest first.
+pub fn to_le32(x: u32) -> [u8; 4]
+    ensures { λ r. ⌜ ToLePromise 4 x r ⌝ }
+{
+    let b = to_le64(x as u64);
+    [b[0], b[1], b[2], b[3]]
 }

@@ -1,10 +1,7 @@
 -- `block::mix` meets its contract: the product fits, and the three sums are one. Assumes nothing.
 use borrow.Author.Needs.{needs}
-use Prim.Native.Nat.{ℕ, _+_, _*_, _%_, _^_}
-use mathlib.Core.Path.{ap, ap₂, _∙_}
 use native.Mathlib.Omega.{arith}
-use Rattle.block.specs.Block.{trunc, mix}
-use Rattle.block.proofs.Mixing.{product-lt, wraps}
+use Rattle.block.proofs.Mixing.{product-lt, mixed}
 use Rattle.block.proofs.mix.Statement.{statement}
 use Rattle.block.proofs.mix.Tie as tie
 
@@ -12,10 +9,11 @@ mul-product : tie.Need-mul-product
 mul-product c = record { fits = product-lt 32 (omega arith) (omega arith) }
 
 returns : tie.Need-returns
-unfolding mix
 returns c =
-    let a = c .before .before .before .before .before .args in
-    cc (wraps (a .a) (a .b) (trunc (a .a) * trunc (a .b)))
+    let s = c .before .before in
+    let t = s .before in
+    mixed _ _ (c .wrapping-add-u643 .ensures) (s .wrapping-add-u64 .ensures) (c .before .wrapping-add-u642 .ensures) (t .before .trunc .ensures)
+    (t .trunc2 .ensures)
 
 pub mix-spec : {M : Type 1} → statement M
 mix-spec =

@@ -1,22 +1,28 @@
 -- `block::Block::compress` meets its contract: the lines are the rows, and then the columns. Assumes nothing.
 use borrow.Author.Needs.{needs}
-use Rattle.block.specs.Block.{compress}
 use Rattle.block.specs.Line.{into-rows, into-columns}
-use Rattle.block.proofs.Line.{are-rows, are-columns}
+use Rattle.block.proofs.Line.{are-lines}
+use Rattle.block.proofs.Stepping.{passed}
 use Rattle.block.proofs.Block.compress.Statement.{statement}
 use Rattle.block.proofs.Block.compress.Tie as tie
 
 returns : tie.Need-returns
-unfolding compress
 returns c =
-    record { result = cc (are-rows _ _ (c .before .before .lines .ensures), are-columns _ _ (c .before .lines2 .ensures)) }
+    let s2 = c .before .before in
+    record {
+      result =
+          passed _ _ (c .xor2 .ensures .result)
+          (are-lines (c .before .lines2 .ensures) (search (into-rows, into-columns)))
+          (are-lines (s2 .lines .ensures) (search (into-rows, into-columns)))
+          (s2 .before .xor .ensures .result);
+    }
 
 pub compress-spec : {M : Type 1} → statement M
 compress-spec =
     tie.close
     (tie.spec
     (λ c κs. search needs)
-    (λ c κs. into-rows)
-    (λ c κs. into-columns)
+    (λ c κs. search (into-rows, into-columns))
+    (λ c κs. search (into-rows, into-columns))
     (λ c κs. search needs)
     returns)
