@@ -13,10 +13,12 @@ use Rattle.word.proofs.Table.{length-table}
 use Rattle.block.specs.Block.{blockWords, xors, compress, columns, rows}
 use Rattle.params.specs.Limits.{slices, segment, laneLength, blocks}
 use Rattle.params.specs.declared.Params.{Params}
+use Rattle.position.specs.Address.{addressed, addressBlock, addressCounter, addressPlace, addressedWord, randomWord}
 use Rattle.position.specs.Position.{column, index, previousColumn, reference}
 use Rattle.position.proofs.Referring.{segments, index-lt}
 use Rattle.argon2.specs.Filling.{currentIndex, previousIndex, wordFor, referenceIndex, newBlock, overwrites, storedBlock, fill}
-use Rattle.argon2.specs.Memory.{block, put}
+use Rattle.argon2.specs.Inner.{Has, stored}
+use Rattle.argon2.specs.Memory.{block}
 use Rattle.argon2.proofs.Memory.{length-put, block-put-same, put-outside}
 
 -- a block of s blocks in a slice, and the one before it, lie in the lane
@@ -33,9 +35,13 @@ module _ (s sl k : ℕ) (two : 2 ≤ s) (four : sl < slices) (inside : k < s) wh
       go false = omega (arith, column-lt)
 
 -- a lane's block lies in a memory of all the blocks
+pub has-at : (P : Params) (words : ℕ) → blockWords * blocks P ≤ words → (l c : ℕ) → l < P .lanes → c < laneLength P
+    → Has words (index (segment P) l c)
+has-at P words enough l c hl hc = omega (arith, index-lt (P .lanes) (segment P) l c hl hc)
+
 pub fits-at : (P : Params) (w : List ℕ) → blockWords * blocks P ≤ length w → (l c : ℕ) → l < P .lanes → c < laneLength P
     → blockWords * index (segment P) l c + blockWords ≤ length w
-fits-at P w fits l c hl hc = omega (arith, index-lt (P .lanes) (segment P) l c hl hc)
+fits-at P w fits l c hl hc = has-at P (length w) fits l c hl hc
 
 -- a block is stored whole
 pub xors-length : (x y : List ℕ) → length (xors x y) ≡ blockWords
@@ -78,10 +84,21 @@ module _
     unfolding fill
     fill-outside i n = put-outside (currentIndex P sl l k) (storedBlock P r sl l k w) w room (stored-length P r sl l k w) i n
 
+-- the random word, where an address block gives it, and where the previous block does
+pub word-addressed : (P : Params) (r sl l k : ℕ) (w : List ℕ) → addressed P r sl ≡ true
+    → wordFor P r sl l k w ≡ getD (addressBlock P r sl l (addressCounter k)) (addressPlace k) 0
+unfolding randomWord addressedWord
+word-addressed P r sl l k w e = rw e
+
+pub word-dependent : (P : Params) (r sl l k : ℕ) (w : List ℕ) → addressed P r sl ≡ false
+    → wordFor P r sl l k w ≡ getD (block (previousIndex P sl l k) w) 0 0
+unfolding randomWord
+word-dependent P r sl l k w e = rw e
+
 -- the memory once a block is filled, made from its parts
 module _ (P : Params) (r sl l k : ℕ) (w : List ℕ) (x before from at : ℕ) (previous referred new : List ℕ) where
   pub fill-parts : x ≡ wordFor P r sl l k w → before ≡ previousIndex P sl l k → from ≡ reference (P .lanes) (segment P) r sl l k x
       → at ≡ currentIndex P sl l k → previous ≡ block before w → referred ≡ block from w → new ≡ compress previous referred
-      → put at (cond (overwrites P r) new (xors (block at w) new)) w ≡ fill P r sl l k w
+      → stored P r at new w ≡ fill P r sl l k w
   unfolding fill storedBlock newBlock
   fill-parts ex eb ef ea ep er en = rw (en, ep, er, ea, eb, ef, ex)

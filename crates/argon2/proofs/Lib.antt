@@ -3,6 +3,7 @@ pub mod Commute
 pub mod Filling
 pub mod Inner
 pub mod Jobs
+pub mod Loop
 pub mod Memory
 pub mod MemoryCost
 pub mod Settled

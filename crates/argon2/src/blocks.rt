@@ -1,15 +1,14 @@
 // One block of the lent words, read and written.
 ghost use mathlib.Core.Path.{_≡_};
-ghost use Prim.Native.Nat.{_+_, _*_, _≤_};
 ghost use lib.ListN.{length};
 ghost use denote.Ref.{now};
-ghost use Rattle.block.specs.Block.{blockWords};
+ghost use Rattle.argon2.specs.Inner.{Has};
 ghost use Rattle.argon2.specs.Memory as spec;
 use block::Block;
 
 // Block b of the words.
 pub(crate) fn read_block(words: &[u64], b: usize) -> Block
-    requires { ⌜ blockWords * b + blockWords ≤ length (now words) ⌝ }
+    requires { ⌜ Has (length (now words)) b ⌝ }
     ensures { λ r. ⌜ r .words ≡ spec.block b (now (words .entry)) ⌝ }
 {
     let mut x = [0; Block::WORDS];
@@ -24,7 +23,7 @@ pub(crate) fn read_block(words: &[u64], b: usize) -> Block
 
 // The words of x for those of block b; every other word stays.
 pub(crate) fn write_block(words: &mut [u64], b: usize, x: Block)
-    requires { ⌜ blockWords * b + blockWords ≤ length (now words) ⌝ }
+    requires { ⌜ Has (length (now words)) b ⌝ }
     ensures { λ _. ⌜ now (words .exit) ≡ spec.put b (x .words) (now (words .entry)) ⌝ }
 {
     let first = Block::WORDS * b;

@@ -1,16 +1,15 @@
 // Document 01's rules of filling: one block, and all of them in the order of RFC 9106.
-ghost use mathlib.Core.Bool.{true, false, cond};
+ghost use mathlib.Core.Bool.{true, false};
 ghost use mathlib.Core.Path.{_≡_};
-ghost use Prim.Native.Nat.{_+_, _*_, _≤_, _<_};
+ghost use Prim.Native.Nat.{_<_};
 ghost use denote.Ref.{now};
 ghost use lib.ListN.{getD, length};
 ghost use Rattle.answer.specs.Answers.{first};
-ghost use Rattle.block.specs.Block.{blockWords, xors};
 ghost use Rattle.params.specs.Limits.{slices, segment};
 ghost use Rattle.position.specs.Address.{addressed, addressBlock, addressCounter, addressPlace};
 ghost use Rattle.position.specs.Position as position;
 ghost use Rattle.argon2.specs.Filling as spec;
-ghost use Rattle.argon2.specs.Inner.{Lent, Segment, Fillable};
+ghost use Rattle.argon2.specs.Inner.{Has, Lent, Segment, Fillable, stored};
 ghost use Rattle.argon2.specs.Memory as memory;
 use crate::blocks::read_block;
 use crate::blocks::write_block;
@@ -56,11 +55,11 @@ fn address_counter(block: u32) -> u32
 }
 
 // The word of its address block that a block takes.
-fn address_word(addresses: Block, block: u32) -> u64
-    ensures { λ r. ⌜ r ≡ getD (addresses .words) (addressPlace block) 0 ⌝ }
+fn address_word(addresses: &[u64; Block::WORDS], block: u32) -> u64
+    ensures { λ r. ⌜ r ≡ getD (now (addresses .entry)) (addressPlace block) 0 ⌝ }
 {
     let at = block as usize % Block::WORDS;
-    addresses.words[at]
+    addresses[at]
 }
 
 // The number in memory of a lane's block at a column.
@@ -134,7 +133,7 @@ fn reference_index(
 
 // Word 0 of the previous block.
 fn previous_word(words: &[u64], params: Params, slice: u32, lane: LaneNumber, block: u32) -> u64
-    requires { ⌜ (slice < slices) × (block < segment params) × (blockWords * spec.previousIndex params slice (lane .0) block + blockWords ≤ length (now words)) ⌝ }
+    requires { ⌜ (slice < slices) × (block < segment params) × Has (length (now words)) (spec.previousIndex params slice (lane .0) block) ⌝ }
     ensures { λ r. ⌜ r ≡ getD (memory.block (spec.previousIndex params slice (lane .0) block) (now (words .entry))) 0 0 ⌝ }
 {
     let first = Block::WORDS * previous_index(params, slice, lane, block);
@@ -155,15 +154,15 @@ fn random_word(
 {
     if is_addressed(params, pass, slice) {
         let addresses = address_block(params, pass, slice, lane, address_counter(block));
-        return address_word(addresses, block);
+        return address_word(&addresses.words, block);
     }
     previous_word(words, params, slice, lane, block)
 }
 
 // Stores a new block: pass 0 or version 16 overwrites; otherwise XOR with what stood there.
 fn store(words: &mut [u64], params: Params, pass: u32, at: usize, new: Block)
-    requires { ⌜ blockWords * at + blockWords ≤ length (now words) ⌝ }
-    ensures { λ _. ⌜ now (words .exit) ≡ memory.put at (cond (spec.overwrites params pass) (new .words) (xors (memory.block at (now (words .entry))) (new .words))) (now (words .entry)) ⌝ }
+    requires { ⌜ Has (length (now words)) at ⌝ }
+    ensures { λ _. ⌜ now (words .exit) ≡ stored params pass at (new .words) (now (words .entry)) ⌝ }
 {
     if (pass == 0) | (params.version == Params::V0X10) {
         write_block(words, at, new);
@@ -215,4 +214,88 @@ pub(crate) fn fill_block(
 {
     let word = random_word(&*words, params, pass, slice, lane, block);
     fill_with(words, params, pass, slice, lane, block, word);
+}
+
+// Fills a segment whose random words come from address blocks. An address block is made when the counter changes, and so at the
+// segment's first block, be it block 0 or block 2.
+fn fill_addressed(words: &mut [u64], params: Params, pass: u32, slice: u32, lane: LaneNumber)
+    requires { ⌜ Segment params pass slice (lane .0) (length (now words)) × (addressed params pass slice ≡ true) ⌝ }
+    ensures { λ _. ⌜ now (words .exit) ≡ spec.fillSegment params pass slice (lane .0) (now (words .entry)) ⌝ }
+{
+    let end = params.segment_length();
+    let mut made = 0;
+    let mut addresses = Block::new();
+    let mut block = first_block(pass, slice);
+    while block < end {
+        let counter = address_counter(block);
+        if made != counter {
+            made = counter;
+            addresses = address_block(params, pass, slice, lane, counter);
+        }
+        let word = address_word(&addresses.words, block);
+        fill_with(&mut *words, params, pass, slice, lane, block, word);
+        block += 1;
+    }
+}
+
+// Fills a segment whose random words come from the blocks before.
+fn fill_dependent(words: &mut [u64], params: Params, pass: u32, slice: u32, lane: LaneNumber)
+    requires { ⌜ Segment params pass slice (lane .0) (length (now words)) × (addressed params pass slice ≡ false) ⌝ }
+    ensures { λ _. ⌜ now (words .exit) ≡ spec.fillSegment params pass slice (lane .0) (now (words .entry)) ⌝ }
+{
+    let end = params.segment_length();
+    let mut block = first_block(pass, slice);
+    while block < end {
+        let word = previous_word(&*words, params, slice, lane, block);
+        fill_with(&mut *words, params, pass, slice, lane, block, word);
+        block += 1;
+    }
+}
+
+// Fills a lane's segment.
+fn fill_segment(words: &mut [u64], params: Params, pass: u32, slice: u32, lane: LaneNumber)
+    requires { ⌜ Segment params pass slice (lane .0) (length (now words)) ⌝ }
+    ensures { λ _. ⌜ now (words .exit) ≡ spec.fillSegment params pass slice (lane .0) (now (words .entry)) ⌝ }
+{
+    if is_addressed(params, pass, slice) {
+        fill_addressed(words, params, pass, slice, lane);
+    } else {
+        fill_dependent(words, params, pass, slice, lane);
+    }
+}
+
+// Fills a slice: the segment of every lane.
+fn fill_slice(words: &mut [u64], params: Params, pass: u32, slice: u32)
+    requires { ⌜ Lent params (length (now words)) × (pass < params .passes) × (slice < slices) ⌝ }
+    ensures { λ _. ⌜ now (words .exit) ≡ spec.fillSlice params pass slice (now (words .entry)) ⌝ }
+{
+    let mut lane = 0;
+    while lane < params.lanes {
+        fill_segment(&mut *words, params, pass, slice, LaneNumber(lane));
+        lane += 1;
+    }
+}
+
+// Fills a pass: every slice.
+fn fill_pass(words: &mut [u64], params: Params, pass: u32)
+    requires { ⌜ Lent params (length (now words)) × (pass < params .passes) ⌝ }
+    ensures { λ _. ⌜ now (words .exit) ≡ spec.fillPass params pass (now (words .entry)) ⌝ }
+{
+    let mut slice = 0;
+    while slice < Params::SYNC_POINTS {
+        fill_slice(&mut *words, params, pass, slice);
+        slice += 1;
+    }
+}
+
+// Fills all: every pass.
+pub(crate) fn fill_all(words: &mut [u64], params: Params)
+    requires { ⌜ Lent params (length (now words)) ⌝ }
+    ensures { λ _. ⌜ now (words .exit) ≡ spec.fillAll params (now (words .entry)) ⌝ }
+{
+    let mut pass = 0;
+    while pass < params.passes {
+        fill_pass(&mut *words, params, pass);
+        pass += 1;
+    }
 }

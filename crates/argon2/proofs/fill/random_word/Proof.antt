@@ -1,19 +1,18 @@
 -- `argon2::fill::random_word` meets its contract: the test is the definition's. Assumes nothing.
-use mathlib.Core.Bool.{true, false}
-use mathlib.Core.Path.{_≡_, sym, _∙_}
+use mathlib.Core.Path.{sym, _∙_}
 use borrow.Author.Needs.{needs}
-use Rattle.position.specs.Address.{addressed, addressedWord, randomWord}
+use Rattle.argon2.proofs.Filling.{word-addressed, word-dependent}
 use Rattle.argon2.proofs.Inner.{previous-room}
 use Rattle.argon2.proofs.fill.random_word.Statement.{statement}
 use Rattle.argon2.proofs.fill.random_word.Tie as tie
 
 returns : tie.Need-returns
-unfolding randomWord addressedWord
 returns c =
-    let a = c .before .before .before .before .before .before .args in
-    let t : addressed (a .params) (a .pass) (a .slice) ≡ true =
-    sym (c .before .before .before .before .is-addressed .ensures) ∙ c .before .before .before .if1 .taken in
-    rw t (c .address-word .ensures ∙ rw (c .before .address-block .ensures, c .before .before .address-counter .ensures))
+    let a = c .before .before .before .before .before .before .before .before .args in
+    let t = sym (c .before .before .before .before .before .before .is-addressed .ensures) ∙ c .before .before .before .before .before .if1 .taken in
+    c .address-word .ensures
+    ∙ rw (c .before .before .before .address-block .ensures, c .before .before .before .before .address-counter .ensures)
+    (sym (word-addressed (a .params) (a .pass) (a .slice) (a .lane .0) (a .block) (a .words .now) t))
 
 previous-word-requires : tie.Need-previous-word-requires
 previous-word-requires c κs =
@@ -21,11 +20,10 @@ previous-word-requires c κs =
     (f .of .slice, f .inside, previous-room f)
 
 returns-2 : tie.Need-returns-2
-unfolding randomWord
 returns-2 c =
     let a = c .before .before .before .before .args in
-    let t : addressed (a .params) (a .pass) (a .slice) ≡ false = sym (c .before .before .is-addressed .ensures) ∙ c .before .if1 .left in
-    rw t (c .previous-word .ensures)
+    let t = sym (c .before .before .is-addressed .ensures) ∙ c .before .if1 .left in
+    c .previous-word .ensures ∙ sym (word-dependent (a .params) (a .pass) (a .slice) (a .lane .0) (a .block) (a .words .now) t)
 
 pub random-word-spec : {M : Type 1} → statement M
 random-word-spec =
