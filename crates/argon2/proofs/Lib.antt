@@ -1,8 +1,11 @@
 pub mod Answered
 pub mod Commute
 pub mod Filling
+pub mod HashInput
 pub mod Inner
 pub mod Jobs
+pub mod Laid
+pub mod LastBlocks
 pub mod Loop
 pub mod Memory
 pub mod MemoryCost

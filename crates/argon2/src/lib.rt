@@ -3,9 +3,12 @@ ghost use denote.Ref.{now};
 ghost use Rattle.argon2.specs.Promises.{StepPromise};
 
 mod blocks;
+mod bytes;
 mod checks;
 mod fill;
+mod initial;
 mod job;
+mod tag;
 
 use fill::fill_block;
 pub use job::Job;

@@ -8,6 +8,7 @@ use Prim.Native.Nat.{ℕ, _+_, _*_}
 use native.Mathlib.Omega.{arith}
 use lib.ListN.{getD, take, drop, replicate}
 use Rattle.blake2b_long.specs.Long.{pieces}
+use Rattle.blake2b_long.proofs.Pieces.{direct, just-over, ninety-six, ninety-seven, a-block}
 use Rattle.block.specs.Block.{blockWords}
 use Rattle.params.specs.Limits.{d, i, id, v13, segmentLength, blocks}
 use Rattle.params.specs.declared.Configured.the-variants.{Absent}
@@ -71,7 +72,7 @@ needs P n e tag password salt secret ad w ok ls =
     (λ c. omega (arith, both .0 c), λ q. both .1 (ap (λ (m : ℕ). m + 2 * P .lanes) q ∙ e))
 
 pub cases : Cases
-unfolding started segmentLength pieces addressedWord
+unfolding started segmentLength addressedWord
 cases =
     record {
       positions = position-cases;
@@ -80,6 +81,6 @@ cases =
       p2-starts = (refl, refl, refl);
       p2-steps = λ algorithm. needs (with-costs algorithm 32 4 3) 88 refl;
       p3-hashed = λ algorithm t tag password salt secret ad. memory-hashed (with-costs algorithm 47 4 t) tag password salt secret ad;
-      p9-pieces = (refl, refl, refl, refl, refl);
+      p9-pieces = (direct, just-over, ninety-six, ninety-seven, a-block);
       p10-words = λ P r sl l. (refl, refl);
     }
