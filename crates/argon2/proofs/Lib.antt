@@ -10,7 +10,9 @@ pub mod Laid
 pub mod LastBlocks
 pub mod Loop
 pub mod Memory
+pub mod MemoryCost
 pub mod Settled
 pub mod Standing
 pub mod StartMemory
+pub mod Stored
 pub mod Tests

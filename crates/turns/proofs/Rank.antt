@@ -74,7 +74,7 @@ rank-moved j a l h la = go (eqb a l) refl
         omega arith
     go false t = omega (arith, moved-other j a l (λ e. eqb-false a l t (sym e)))
 
-rank-filled : (σ : State) (a l : ℕ) → ReadyFor σ a → l < σ .job .params .lanes → rank (filled σ a .job) l ≡ cond (eqb a l) 1 0 + rank (σ .job) l
+pub rank-filled : (σ : State) (a l : ℕ) → ReadyFor σ a → l < σ .job .params .lanes → rank (filled σ a .job) l ≡ cond (eqb a l) 1 0 + rank (σ .job) l
 unfolding moved
 rank-filled σ a l h k =
     rank-settled (moved (σ .job) a) l (h .inside .within) k (moved-high (σ .job) a l (h .inside) (h .lane) (h .under) k)
