@@ -1,4 +1,5 @@
 pub mod Commute
+pub mod Digests
 pub mod Filling
 pub mod HashInput
 pub mod Inner
