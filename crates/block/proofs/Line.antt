@@ -1,14 +1,13 @@
 -- Lines of registers, once for rows and columns: where a line's words stand, a line laid down word by word, and line after line.
 -- A block every line of which is P of another's is that block's `rows`, or its `columns`. Assumes nothing.
 use Prim.Native.Nat.{ℕ, _+_, _*_, _-_, _%_, _/_, _<_, _≤_}
-use mathlib.Core.Path.{_≡_, refl, ap, ap₂, sym, _∙_, subst, subst⁻¹}
+use mathlib.Core.Path.{_≡_, ap, ap₂, sym, _∙_, subst⁻¹}
 use mathlib.Core.Logic.{_⊎_, ⊎-elim}
 use mathlib.Core.List.{List}
 use native.Mathlib.Nat.{eq-or-lt-of-le, mul-le-mul-left, eq-of-mul-eq-mul-left, one-mul}
 use native.Mathlib.Omega.{arith}
 use lib.ListN.{length, getD, set, length-set}
 use lib.Seq.{getD-set-same, getD-set-other}
-use Rattle.word.specs.Table.{table}
 use Rattle.word.proofs.Table.{length-table, getD-table, is-table, same-table}
 use Rattle.block.specs.Block.{blockWords, registerWords, side, rowWords, place, registers, permutation, quarterAt, rows, columns}
 use Rattle.block.specs.Line.{Inside, Laid, Cut, into-rows, into-columns, Permuted}

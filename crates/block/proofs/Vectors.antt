@@ -1,6 +1,6 @@
 -- The quarter step, the permutation and words of a compression, by computation; the figures come from an implementation of its own. Assumes nothing.
 use mathlib.Core.Path.{_≡_, refl}
-use mathlib.Core.List.{List, [], _∷_}
+use mathlib.Core.List.{[], _∷_}
 use lib.ListN.{getD}
 use Rattle.word.specs.Table.{table}
 use Rattle.word.specs.Word.{rotr}

@@ -1,6 +1,6 @@
 -- `block::lay` meets its contract: the loop lays down one word more each turn. Assumes nothing.
 use borrow.Author.Needs.{needs}
-use Prim.Native.Nat.{ℕ, _-_, _≤_}
+use Prim.Native.Nat.{_-_, _≤_}
 use mathlib.Core.Path.{_≡_, refl}
 use native.Mathlib.Omega.{arith}
 use Rattle.block.specs.Block.{rowWords}

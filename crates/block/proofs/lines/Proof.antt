@@ -1,6 +1,6 @@
 -- `block::lines` meets its contract: each turn permutes one line more. Assumes nothing.
 use borrow.Author.Needs.{needs}
-use Prim.Native.Nat.{ℕ, _-_, _≤_}
+use Prim.Native.Nat.{_-_, _≤_}
 use mathlib.Core.Path.{_≡_, ap, refl, _∙_}
 use native.Mathlib.Omega.{arith}
 use Rattle.block.specs.Block.{side, permutation}
