@@ -1,11 +1,24 @@
 // Document 01's numbers: the parameters, their limits and the sizes that they give.
-ghost use Rattle.params.specs.Promises.{CostsPromise, CheckPromise, SegmentPromise, LanePromise, BlocksPromise};
+ghost use Rattle.params.specs.Promises.{CostsPromise, CheckPromise, SegmentPromise, LanePromise, BlocksPromise, FromNumbersPromise};
+ghost use mathlib.Core.Path.{_≡_};
+ghost use Rattle.params.specs.Limits.{configuredOf};
 use answer::Answer;
 
 // A configured tag length: absent, or a number.
 pub enum Configured {
     Absent,
     Length(u32),
+}
+
+// The configured length that one number stands for.
+fn configured_of(n: u32) -> Configured
+    ensures { λ r. ⌜ r ≡ configuredOf n ⌝ }
+{
+    if n == 0 {
+        Configured::Absent
+    } else {
+        Configured::Length(n)
+    }
 }
 
 pub struct Params {
@@ -40,6 +53,28 @@ impl Params {
     pub const MIN_LANE: u32 = 2 * Params::SYNC_POINTS;
 
     pub const MIN_TAG: u32 = 4;
+
+    // The parameters of six numbers, as the program and the C boundary have them: a configured length of 0 stands for none.
+    pub fn from_numbers(
+        algorithm: u32,
+        version: u32,
+        memory: u32,
+        passes: u32,
+        lanes: u32,
+        configured: u32,
+    ) -> Params
+        ensures { λ r. ⌜ FromNumbersPromise algorithm version memory passes lanes configured r ⌝ }
+    {
+        let configured = configured_of(configured);
+        Params {
+            algorithm,
+            version,
+            memory,
+            passes,
+            lanes,
+            configured,
+        }
+    }
 
     // The first of document 01's rows 3 to 7 that holds.
     pub fn check_costs(lanes: u32, memory: u32, passes: u32) -> Answer
