@@ -54,6 +54,14 @@ impl Params {
 
     pub const MIN_TAG: u32 = 4;
 
+    // The least salt, and the most associated data.
+    pub const MIN_SALT: usize = 8;
+
+    pub const MAX_DATA: usize = 32;
+
+    // The most bytes of a password, a salt, a secret and a tag.
+    pub const MAX_LENGTH: usize = 0xffff_ffff;
+
     // The parameters of six numbers, as the program and the C boundary have them: a configured length of 0 stands for none.
     pub fn from_numbers(
         algorithm: u32,
