@@ -1,3 +1,4 @@
+pub mod Answering
 pub mod Longest
 pub mod Pushing
 pub mod Settled

@@ -47,6 +47,9 @@ impl Case {
 
     pub const MAX_TAG: usize = 256;
 
+    // Room for the longest answer: `tag `, two digits a byte, and a newline.
+    pub const LINE: usize = 4 + 2 * Case::MAX_TAG + 1;
+
     // The longest good case: section 1, and four sections of a count and the most bytes.
     pub const LONGEST: usize = Case::NUMBERS_END + 4 * (Case::NUMBER + Case::MAX_SECTION as usize);
 }

@@ -1,24 +1,13 @@
--- `crabuledda::crabuledda_fill_memory` meets its contract: it hands the numbers and the slices on. Assumes nothing.
-use mathlib.Core.List.{List}
-use mathlib.Core.Path.{_≡_, ap, _∙_}
+-- `crabuledda_fill_memory` meets its contract: the six numbers are the parameters, and the answer's number is handed back. Assumes nothing.
+use mathlib.Core.Path.{_∙_}
 use borrow.Author.Needs.{needs}
-use Rattle.params.specs.declared.Params.{Params}
-use Rattle.argon2.specs.Calls.{Result, memoryFilled}
 use Rattle.crabuledda.proofs.crabuledda_fill_memory.Statement.{statement}
 use Rattle.crabuledda.proofs.crabuledda_fill_memory.Tie as tie
 
 returns : tie.Need-returns
 returns c =
-    let h = c .before .before .before .fill-memory .ensures in
-    let n = c .before .before .before .before .before in
-    let a = n .before .before .before .before .before .before .args in
-    let of : (P : Params) → Result
-    = λ P. memoryFilled P (a .password .now) (a .salt .now) (a .secret .now) (a .ad .now) (a .words .now) in
-    let e = n .from-numbers .ensures .result in
-    record {
-      answer = c .number .ensures .result ∙ h .answer ∙ ap (λ (P : Params). of P .answer) e;
-      words = h .memory ∙ ap (λ (P : Params). of P .memory) e;
-    }
+    let p = rw (c .before .before .before .before .before .from-numbers .ensures .result) at (c .before .before .before .fill-memory .ensures) in
+    record { answer = c .number .ensures .result ∙ p .answer; memory = p .memory }
 
 pub crabuledda-fill-memory-spec : {M : Type 1} → statement M
 crabuledda-fill-memory-spec =
