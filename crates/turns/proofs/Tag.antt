@@ -28,11 +28,12 @@ use Rattle.argon2.specs.Rows.{outputRows}
 use Rattle.argon2.specs.declared.job.Job.{Job}
 use Rattle.argon2.proofs.Jobs.{Complete, Finishing, finishing-accepted}
 use Rattle.argon2.proofs.StartMemory.{start-length}
+use Rattle.argon2.proofs.StartWrites.{Accepted, accepted-start}
 use Rattle.turns.specs.Play.{State, step, run}
 use Rattle.turns.proofs.Canonical.{To, canonical}
 use Rattle.turns.proofs.Completion.{run-complete, complete-alike}
 use Rattle.turns.proofs.Forgotten.{from, from-stands, forgotten}
-use Rattle.turns.proofs.Started.{Begin, answered, before, Accepted, accepted-start, started-state, refused-state, start-params}
+use Rattle.turns.proofs.Started.{Begin, answered, before, started-state, refused-state, start-params}
 use Rattle.turns.proofs.Steps.{after-step, run-params, run-stands, Stands}
 
 -- ---- the tag is made of the blocks alone
