@@ -12,7 +12,7 @@ use lib.ListN.{length}
 use borrow.Author.Tests.{eqb-true, eqb-false, ltb-true, ltb-false}
 use Rattle.answer.specs.Answers.{first}
 use Rattle.block.specs.Block.{blockWords}
-use Rattle.params.specs.Limits.{rows, slices, segment, laneLength, blocks}
+use Rattle.params.specs.Limits.{rows, segment, laneLength, blocks}
 use Rattle.params.specs.declared.Params.{Params}
 use Rattle.params.proofs.Within.{params-within, two}
 use Rattle.position.specs.Position.{column, index, previousColumn, referenceLane, referenceColumn}
@@ -33,7 +33,7 @@ use Rattle.turns.proofs.Behind.{later, next-is-written, reference-behin
 use Rattle.turns.proofs.Completion.{run-complete, complete-alike}
 use Rattle.turns.proofs.Rank.{rank, rank-filled, rank-complete}
 use Rattle.turns.proofs.Started.{answered, before, started-state, start-stands, start-params, start-rank}
-use Rattle.turns.proofs.Steps.{filled, accepted-step, refused-step, ReadyFor, accepted-ready, ready-accepts, step-params, step-length, run-params, StandsAt, Stands}
+use Rattle.turns.proofs.Steps.{filled, accepted-step, refused-step, ReadyFor, accepted-ready, ready-accepts, step-params, step-length, Stands}
 
 -- v and w agree on every block that lies behind the job
 abbrev Agree : Params → Job → List ℕ → List ℕ → Type 0

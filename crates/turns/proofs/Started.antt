@@ -1,30 +1,30 @@
 -- An accepted start: what its answer says of the inputs, where its job stands, that it writes blocks 0 and 1 of every lane and no other
 -- word, and that a refused one changes nothing. Assumes nothing.
 use mathlib.Core.Path.{_≡_, refl, sym, ap, _∙_, subst}
-use mathlib.Core.Logic.{_≢_, _⊎_, inl, inr}
+use mathlib.Core.Logic.{_≢_, inl}
 use mathlib.Core.Bool.{Bool, true, false, cond, _||_, true≢false}
-use mathlib.Core.List.{List, [], _∷_, _++_}
-use Prim.Native.Nat.{ℕ, zero, suc, _+_, _-_, _*_, _/_, _≤_, _<_}
+use mathlib.Core.List.{List, _++_}
+use Prim.Native.Nat.{ℕ, zero, suc, _-_, _*_, _/_, _≤_, _<_}
 use native.Mathlib.Omega.{arith}
 use lib.Dec.{eqb, ltb}
 use lib.ListN.{length, getD, replicate, length-append, length-replicate}
-use borrow.Author.Tests.{eqb-true, eqb-false, eq-eqb, ne-eqb, ltb-true, ltb-false, le-ltb}
+use borrow.Author.Tests.{eqb-true, eqb-false, ne-eqb, ltb-true, ltb-false, le-ltb}
 use Rattle.answer.specs.Answers.{first, ifAccepted}
 use Rattle.block.specs.Block.{blockWords}
-use Rattle.params.specs.Limits.{rows, among, slices, maxLanes, segment, blocks}
+use Rattle.params.specs.Limits.{rows, among, maxLanes, segment, blocks}
 use Rattle.params.specs.declared.Params.{Params}
 use Rattle.params.proofs.Within.{params-within, two}
 use Rattle.position.specs.Position.{firstBlock, index}
 use Rattle.argon2.specs.Calls.{started}
 use Rattle.argon2.specs.Initial.{initialHash, firstWords, startMemory}
-use Rattle.argon2.specs.Jobs.{position, unfinished, settled, nextSlice, startJob, zeroJob}
+use Rattle.argon2.specs.Jobs.{position, settled, nextSlice, startJob, zeroJob}
 use Rattle.argon2.specs.Memory.{block}
 use Rattle.argon2.specs.Rows.{outputRows}
 use Rattle.argon2.specs.declared.job.Job.{Job}
-use Rattle.argon2.proofs.Jobs.{Inside, Complete, Bounds, unfinished-by, settled-unfinished, settled-finished, zeros-at, next-position, next-stands}
+use Rattle.argon2.proofs.Jobs.{Bounds, unfinished-by, settled-unfinished, settled-finished, zeros-at, next-position, next-stands}
 use Rattle.argon2.proofs.StartMemory.{start-length, start-block}
 use Rattle.argon2.proofs.StartWrites.{Accepted, accepted-start, start-others}
-use Rattle.argon2.proofs.Tests.{any-of-false, or-left, or-right}
+use Rattle.argon2.proofs.Tests.{any-of-false}
 use Rattle.turns.specs.Play.{State, begun, startWrites}
 use Rattle.turns.proofs.Rank.{rank, rank-settled}
 use Rattle.turns.proofs.Steps.{settled-params, StandsAt, Stands}
