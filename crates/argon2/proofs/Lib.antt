@@ -3,6 +3,7 @@ pub mod Commute
 pub mod Filling
 pub mod HashInput
 pub mod Inner
+pub mod Inputs
 pub mod Jobs
 pub mod Laid
 pub mod LastBlocks

@@ -2,11 +2,11 @@
 ghost use lib.Dec.{ltb};
 ghost use mathlib.Core.List.{[], _∷_};
 ghost use mathlib.Core.Path.{_≡_};
-ghost use Prim.Native.Nat.{_*_};
+ghost use Prim.Native.Nat.{_*_, _≤_};
 ghost use Rattle.answer.specs.Answers.{number, first, ifAccepted};
 ghost use Rattle.block.specs.Block.{blockWords};
 ghost use Rattle.params.specs.Limits.{blocks};
-ghost use Rattle.argon2.specs.Rows.{outputTooShort, outputTooLong, outputRows, extraRows, inputRows, startRows, fillRows};
+ghost use Rattle.argon2.specs.Rows.{maxLength, outputTooShort, outputTooLong, outputRows, extraRows, inputRows, startRows, fillRows};
 use answer::Answer;
 use block::Block;
 use params::Configured;
@@ -45,9 +45,9 @@ pub(crate) fn check_length(least: usize, most: usize, n: usize) -> Answer
     Answer::Accepted
 }
 
-// Rows 11 and 12, by the configured length.
+// Rows 11 and 12, by the configured length; an accepted length fits 4 bytes.
 pub(crate) fn check_output(configured: Configured, n: usize) -> Answer
-    ensures { λ r. ⌜ number r ≡ first (outputRows configured n) ⌝ }
+    ensures { λ r. ⌜ (number r ≡ first (outputRows configured n)) × (number r ≡ 0 → n ≤ maxLength) ⌝ }
 {
     match configured {
         Configured::Absent => check_length(Params::MIN_TAG as usize, Params::MAX_LENGTH, n),
@@ -81,7 +81,7 @@ fn check_inputs(params: Params, password: usize, salt: usize, words: usize) -> A
     Answer::Accepted
 }
 
-// Rows 1 to 16.
+// Rows 1 to 16; an accepted tag length fits 4 bytes.
 pub(crate) fn check_start(
     params: Params,
     tag: usize,
@@ -91,7 +91,7 @@ pub(crate) fn check_start(
     ad: usize,
     words: usize,
 ) -> Answer
-    ensures { λ r. ⌜ number r ≡ first (startRows params tag password salt secret ad words) ⌝ }
+    ensures { λ r. ⌜ (number r ≡ first (startRows params tag password salt secret ad words)) × (number r ≡ 0 → tag ≤ maxLength) ⌝ }
 {
     let configured = params.configured;
     let extra = first_of(params.check(), check_extra(secret, ad));

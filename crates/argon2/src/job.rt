@@ -1,7 +1,7 @@
 // Document 01's job: the accepted numbers, the place in the filling and one position for each lane.
 ghost use lib.Dec.{leb, ltb};
 ghost use lib.ListN.{getD, replicate};
-ghost use mathlib.Core.Bool.{_&&_, _||_};
+ghost use mathlib.Core.Bool.{true, _&&_, _||_};
 ghost use mathlib.Core.List.{_++_};
 ghost use mathlib.Core.Path.{_≡_};
 ghost use Prim.Native.Nat.{_-_, _<_, _≤_};
@@ -9,6 +9,7 @@ ghost use Rattle.answer.specs.Answers.{number, first};
 ghost use Rattle.params.specs.Limits.{maxLanes, slices, rows, segment};
 ghost use Rattle.argon2.specs.Jobs as spec;
 ghost use Rattle.argon2.specs.Promises.{ZerosPromise};
+ghost use Rattle.argon2.specs.Rows.{maxLength};
 use crate::checks::check_length;
 use crate::checks::check_output;
 use crate::checks::too_little;
@@ -106,7 +107,7 @@ impl Job {
 
     // Whether its tag length is one that its numbers allow.
     fn tag_allowed(self) -> bool
-        ensures { λ r. ⌜ r ≡ spec.tagAllowed self ⌝ }
+        ensures { λ r. ⌜ (r ≡ spec.tagAllowed self) × (r ≡ true → self .tag ≤ maxLength) ⌝ }
     {
         let params = self.params;
         let configured = params.configured;
@@ -166,7 +167,7 @@ impl Job {
 
     // Whether its numbers pass rows 1 to 8, its tag length is one they allow, lanes not in use stand at 0, and it stands complete or inside.
     pub(crate) fn consistent(self) -> bool
-        ensures { λ r. ⌜ r ≡ spec.consistent self ⌝ }
+        ensures { λ r. ⌜ (r ≡ spec.consistent self) × (r ≡ true → self .tag ≤ maxLength) ⌝ }
     {
         let params = self.params;
         if params.check().number() != 0 {
@@ -209,7 +210,7 @@ impl Job {
 
     // The first of rows 17, 16, 21, 11 and 12 that holds, for an output of n bytes.
     pub(crate) fn check_finish(self, words: usize, n: usize) -> Answer
-        ensures { λ r. ⌜ number r ≡ first (spec.finishRows self words n) ⌝ }
+        ensures { λ r. ⌜ (number r ≡ first (spec.finishRows self words n)) × (number r ≡ 0 → n ≤ maxLength) ⌝ }
     {
         let params = self.params;
         if !self.consistent() {

@@ -15,7 +15,7 @@ use Rattle.argon2.proofs.job.Job.check_step.Statement.{statement}
 use Rattle.argon2.proofs.job.Job.check_step.Tie as tie
 
 past17 : (c : tie.Else1) → consistent (c .before .before .before .args .self) ≡ true
-past17 c = sym (c .before .consistent .ensures) ∙ not-false (c .before .consistent .result) (c .if1 .left)
+past17 c = sym (c .before .consistent .ensures .0) ∙ not-false (c .before .consistent .result) (c .if1 .left)
 
 past16 : (c : tie.Else2) → let a = c .before .before .before .before .before .args in ltb (a .words) (blockWords * blocks (a .self .params)) ≡ false
 past16 c = sym (c .before .too-little .ensures) ∙ c .if2 .left
@@ -24,7 +24,7 @@ past18 : (c : tie.Else3) → complete (c .before .before .before .before .before
 past18 c = sym (c .before .complete .ensures) ∙ c .if3 .left
 
 returns : tie.Need-returns
-returns c = rw (sym (c .before .consistent .ensures) ∙ not-true (c .before .consistent .result) (c .if1 .taken))
+returns c = rw (sym (c .before .consistent .ensures .0) ∙ not-true (c .before .consistent .result) (c .if1 .taken))
 
 returns-2 : tie.Need-returns-2
 returns-2 c = rw (past17 (c .before .before), sym (c .before .too-little .ensures) ∙ c .if2 .taken)
@@ -50,7 +50,11 @@ returns-5 c =
     let f = c .before .before .before in
     let e = f .before .before .before in
     let d = e .before .before in
-    let same = sym (c .before .before .position .ensures) ∙ c .if5 .taken ∙ c .before .segment-length .ensures .result in
+    let j = d .before .before .before .before .before .args .self in
+    let l = d .before .before .before .before .before .args .lane .0 in
+    let at = c .before .before .position .ensures in
+    let end = c .before .segment-length .ensures .result in
+    let same : position j l ≡ segment (j .params) = omega (arith, at, end, c .if5 .taken) in
     rw (past17 (d .before .before), past16 d, past18 e, lt-leb _ _ (f .if4 .left), eq-eqb _ _ same)
 
 returns-6 : tie.Need-returns-6
@@ -67,7 +71,7 @@ returns-6 c =
       past16 d,
       past18 e,
       lt-leb _ _ (f .if4 .left),
-      ne-eqb (position j l) (segment (j .params)) (λ same. c .if5 .left (at ∙ same ∙ sym end)),
+      ne-eqb (position j l) (segment (j .params)) (λ same. omega (arith, at, end, c .if5 .left, same)),
     )
 
 pub check-step-spec : {M : Type 1} → statement M
