@@ -1,5 +1,6 @@
 pub mod Answered
 pub mod Commute
+pub mod Digests
 pub mod Filling
 pub mod HashInput
 pub mod Inner
