@@ -1,5 +1,5 @@
 -- `argon2::finish` meets its contract: refused, the output stays; accepted, the job is complete and its tag length fits. Assumes nothing.
-use Prim.Native.Nat.{ℕ, _≤_}
+use Prim.Native.Nat.{ℕ}
 use mathlib.Core.Path.{_≡_, sym, _∙_}
 use native.Mathlib.Omega.{arith}
 use lib.ListN.{length}
@@ -10,7 +10,7 @@ use Rattle.argon2.specs.Calls.{finished}
 use Rattle.argon2.specs.Jobs.{finishRows}
 use Rattle.argon2.proofs.Answered.{left-new, left-old}
 use Rattle.argon2.proofs.Inputs.{tag-some}
-use Rattle.argon2.proofs.Jobs.{Finishing, finishing}
+use Rattle.argon2.proofs.Jobs.{finishing}
 use Rattle.argon2.proofs.finish.Statement.{statement}
 use Rattle.argon2.proofs.finish.Tie as tie
 

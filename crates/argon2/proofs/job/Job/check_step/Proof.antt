@@ -2,9 +2,9 @@
 -- job has few lanes, so that its lane has a position. Assumes nothing.
 use Prim.Native.Nat.{_*_}
 use mathlib.Core.Bool.{true, false}
-use mathlib.Core.Path.{_≡_, sym, ap, _∙_}
+use mathlib.Core.Path.{_≡_, sym, _∙_}
 use native.Mathlib.Omega.{arith}
-use lib.Dec.{leb, ltb, eqb}
+use lib.Dec.{ltb}
 use borrow.Author.Needs.{needs}
 use borrow.Author.Tests.{not-true, not-false, le-leb, lt-leb, eq-eqb, ne-eqb}
 use Rattle.block.specs.Block.{blockWords}

@@ -1,0 +1,4 @@
+pub mod Longest
+pub mod Pushing
+pub mod Settled
+pub mod Spans
