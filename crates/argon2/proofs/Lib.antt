@@ -14,5 +14,6 @@ pub mod MemoryCost
 pub mod Settled
 pub mod Standing
 pub mod StartMemory
+pub mod StartWrites
 pub mod Stored
 pub mod Tests

@@ -6,7 +6,7 @@ use mathlib.Core.Bool.{Bool, true, false, cond, not}
 use mathlib.Core.List.{List, [], _∷_}
 use Prim.Native.Nat.{ℕ, _*_, _≤_}
 use native.Mathlib.Omega.{arith}
-use lib.Dec.{eqb, ltb, leb}
+use lib.Dec.{eqb, leb}
 use lib.ListN.{length, getD}
 use borrow.Author.Tests.{le-ltb}
 use Rattle.answer.specs.Answers.{first}
@@ -24,7 +24,7 @@ use Rattle.argon2.specs.Memory.{block}
 use Rattle.argon2.specs.declared.job.Job.{Job}
 use Rattle.turns.specs.Play.{State, accepts, step, refers, filling, trace, addressedOnly, Filled}
 use Rattle.turns.proofs.Started.{answered, before, started-job, started-params, started-stands}
-use Rattle.turns.proofs.Steps.{step-params, step-length, Stands}
+use Rattle.turns.proofs.Steps.{step-params, step-length}
 
 -- two states at the same place of fillings with the same costs and algorithm
 pub record SamePlace (σ τ : State) (l : ℕ) : Type 0 where

@@ -8,7 +8,7 @@ use native.Mathlib.Omega.{arith}
 use native.Mathlib.Nat.{mul-le-mul-right}
 use lib.Dec.{eqb}
 use borrow.Author.Tests.{eqb-true, eqb-false}
-use Rattle.params.specs.Limits.{slices, segment, laneLength}
+use Rattle.params.specs.Limits.{segment, laneLength}
 use Rattle.params.specs.declared.Params.{Params}
 use Rattle.params.proofs.Within.{two}
 use Rattle.position.specs.Position.{firstBlock, column, index, previousColumn, referenceLane, referenceColumn}

@@ -1,7 +1,7 @@
 -- From an accepted start: the job stays consistent, some lane is accepted until filling is complete, completion is what step and finish
 -- answer by, and it takes exactly passes times blocks steps, less two for each lane. Assumes nothing.
 use mathlib.Core.Path.{_≡_, refl, sym, ap, _∙_, subst}
-use mathlib.Core.Logic.{_≢_, _⊎_, inl, inr, _↔_}
+use mathlib.Core.Logic.{_≢_, inl, inr, _↔_}
 use mathlib.Core.Bool.{Bool, true, false, cond, not, false≢true}
 use mathlib.Core.List.{List}
 use Prim.Native.Nat.{ℕ, _+_, _*_, _≤_, _<_}
@@ -9,14 +9,13 @@ use native.Mathlib.Omega.{arith}
 use lib.Dec.{eqb, ltb, leb}
 use lib.ListN.{length}
 use borrow.Author.Tests.{eqb-true, eqb-false, ltb-true, ltb-false, le-ltb}
-use Rattle.answer.specs.Answers.{first}
 use Rattle.block.specs.Block.{blockWords}
 use Rattle.params.specs.Limits.{segment, laneLength, blocks}
 use Rattle.params.specs.declared.Params.{Params}
 use Rattle.argon2.specs.Calls.{stepped, finished}
 use Rattle.argon2.specs.Jobs.{position, complete, consistent}
 use Rattle.argon2.specs.declared.job.Job.{Job}
-use Rattle.argon2.proofs.Jobs.{Inside, Complete, Ready}
+use Rattle.argon2.proofs.Jobs.{Inside, Complete}
 use Rattle.turns.specs.Play.{State, accepts, run, accepted, acceptedSteps}
 use Rattle.turns.proofs.Order.{any-order}
 use Rattle.turns.proofs.Rank.{rank, rank-run, idle-run, sum-run, rank-complete, rank-inside}

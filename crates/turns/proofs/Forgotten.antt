@@ -12,7 +12,7 @@ use lib.ListN.{length}
 use borrow.Author.Tests.{eqb-true, eqb-false, ltb-true, ltb-false}
 use Rattle.answer.specs.Answers.{first}
 use Rattle.block.specs.Block.{blockWords}
-use Rattle.params.specs.Limits.{rows, slices, segment, laneLength, blocks}
+use Rattle.params.specs.Limits.{rows, segment, laneLength, blocks}
 use Rattle.params.specs.declared.Params.{Params}
 use Rattle.params.proofs.Within.{params-within, two}
 use Rattle.position.specs.Position.{column, index, previousColumn, referenceLane, referenceColumn}
@@ -26,13 +26,14 @@ use Rattle.argon2.specs.declared.job.Job.{Job}
 use Rattle.argon2.proofs.Filling.{column-lt, previous-lt, fill-block}
 use Rattle.argon2.proofs.Jobs.{Bounds, inside-bounds, Ready}
 use Rattle.argon2.proofs.StartMemory.{start-length, start-block}
+use Rattle.argon2.proofs.StartWrites.{Accepted, accepted-start}
 use Rattle.argon2.proofs.Stored.{same-stored, fill-other}
 use Rattle.turns.specs.Play.{State, accepts, step, run, writes}
 use Rattle.turns.proofs.Behind.{later, next-is-written, reference-behind, previous-behind}
 use Rattle.turns.proofs.Completion.{run-complete, complete-alike}
 use Rattle.turns.proofs.Rank.{rank, rank-filled, rank-complete}
-use Rattle.turns.proofs.Started.{answered, before, Accepted, accepted-start, started-state, start-stands, start-params, start-rank}
-use Rattle.turns.proofs.Steps.{filled, accepted-step, refused-step, ReadyFor, accepted-ready, ready-accepts, step-params, step-length, run-params, StandsAt, Stands}
+use Rattle.turns.proofs.Started.{answered, before, started-state, start-stands, start-params, start-rank}
+use Rattle.turns.proofs.Steps.{filled, accepted-step, refused-step, ReadyFor, accepted-ready, ready-accepts, step-params, step-length, Stands}
 
 -- v and w agree on every block that lies behind the job
 abbrev Agree : Params → Job → List ℕ → List ℕ → Type 0

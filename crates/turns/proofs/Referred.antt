@@ -4,7 +4,7 @@ use mathlib.Core.Path.{_≡_, refl, sym, ap, _∙_, subst}
 use mathlib.Core.Logic.{_≢_}
 use mathlib.Core.Bool.{Bool, true, false, cond, _&&_, _||_, false≢true}
 use mathlib.Core.List.{List, [], _∷_, _++_}
-use Prim.Native.Nat.{ℕ, zero, suc, _+_, _*_, _≤_, _<_}
+use Prim.Native.Nat.{ℕ, zero, suc, _+_, _*_, _<_}
 use native.Mathlib.Omega.{arith}
 use lib.Dec.{eqb, ltb}
 use lib.ListN.{length}
@@ -18,7 +18,7 @@ use Rattle.argon2.specs.Filling.{previousIndex, wordFor}
 use Rattle.argon2.specs.Jobs.{position}
 use Rattle.argon2.specs.declared.job.Job.{Job}
 use Rattle.argon2.proofs.Filling.{previous-lt}
-use Rattle.argon2.proofs.Jobs.{Bounds, inside-bounds, Ready}
+use Rattle.argon2.proofs.Jobs.{Bounds, inside-bounds}
 use Rattle.argon2.proofs.Tests.{or-left, or-right, or-second}
 use Rattle.turns.specs.Play.{State, accepts, step, run, writes, refers, startWrites, written}
 use Rattle.turns.specs.Turns.{noted}

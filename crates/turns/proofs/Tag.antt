@@ -4,16 +4,15 @@ use mathlib.Core.Path.{_≡_, refl, sym, ap, _∙_, subst}
 use mathlib.Core.Logic.{_≢_}
 use mathlib.Core.Bool.{Bool, true, false, cond}
 use mathlib.Core.List.{List, [], _∷_}
-use Prim.Native.Nat.{ℕ, zero, suc, _+_, _-_, _*_, _≤_, _<_}
+use Prim.Native.Nat.{ℕ, zero, suc, _-_, _*_, _≤_, _<_}
 use native.Mathlib.Omega.{arith}
-use lib.Dec.{eqb}
 use lib.ListN.{length, replicate, length-replicate}
 use borrow.Author.Tests.{eq-eqb, ne-eqb}
 use Rattle.answer.specs.Answers.{first, ifAccepted}
 use Rattle.blake2b.specs.Blake2b.{bytes}
 use Rattle.blake2b_long.specs.Long.{long}
 use Rattle.block.specs.Block.{blockWords, xors}
-use Rattle.params.specs.Limits.{rows, slices, segment, laneLength, blocks}
+use Rattle.params.specs.Limits.{rows, slices, segment, blocks}
 use Rattle.params.specs.declared.Params.{Params}
 use Rattle.params.proofs.Within.{params-within, two}
 use Rattle.position.specs.Position.{index}
@@ -21,18 +20,19 @@ use Rattle.position.proofs.Referring.{index-lt}
 use Rattle.argon2.specs.Argon2.{lastBlocks, tagOf, filled, argon2}
 use Rattle.argon2.specs.Calls.{Result, started, finished, hashed}
 use Rattle.argon2.specs.Filling.{fillAll}
-use Rattle.argon2.specs.Initial.{initialHash, startMemory}
-use Rattle.argon2.specs.Jobs.{complete, unfinished, moved, settled, nextSlice, startJob, finishRows}
+use Rattle.argon2.specs.Initial.{initialHash}
+use Rattle.argon2.specs.Jobs.{complete, unfinished, moved, settled, nextSlice, startJob}
 use Rattle.argon2.specs.Memory.{block}
 use Rattle.argon2.specs.Rows.{outputRows}
 use Rattle.argon2.specs.declared.job.Job.{Job}
-use Rattle.argon2.proofs.Jobs.{Complete, Finishing, finishing-accepted}
+use Rattle.argon2.proofs.Jobs.{Finishing, finishing-accepted}
 use Rattle.argon2.proofs.StartMemory.{start-length}
+use Rattle.argon2.proofs.StartWrites.{Accepted, accepted-start}
 use Rattle.turns.specs.Play.{State, step, run}
 use Rattle.turns.proofs.Canonical.{To, canonical}
 use Rattle.turns.proofs.Completion.{run-complete, complete-alike}
 use Rattle.turns.proofs.Forgotten.{from, from-stands, forgotten}
-use Rattle.turns.proofs.Started.{Begin, answered, before, Accepted, accepted-start, started-state, refused-state, start-params}
+use Rattle.turns.proofs.Started.{Begin, answered, before, started-state, refused-state, start-params}
 use Rattle.turns.proofs.Steps.{after-step, run-params, run-stands, Stands}
 
 -- ---- the tag is made of the blocks alone
