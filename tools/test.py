@@ -1,8 +1,8 @@
 #!/usr/bin/env python3
 """Runs every check of the repository: the README's test command.
 
-The parts run one after the other; each line that a part prints is shown with the time since the start.
-The first part that fails ends the run with its status. The last line printed is the last line of `rt ci`.
+The parts run one after the other; each line that a part prints is shown with the time since the start. The first part that
+fails ends the run with its status. The last line of `rt ci`, its count, is kept back and printed as the last line of all.
 """
 import queue
 import subprocess
@@ -62,15 +62,25 @@ def run(name, command):
     return last
 
 
-PARTS = [
+BEFORE = [
     ("promises", [sys.executable, "tools/promises.py"]),
+    ("layout", ["rt", "fmt", "--check"]),
+]
+AFTER = [
+    ("oracle", ["oracle/build", "--test"]),
+    ("hosts", ["host/test"]),
+    ("cases", [sys.executable, "tools/vectors.py", "oracle/recorded/cases.jsonl", "./crabuledda", "case"]),
+    ("compare", ["./crabuledda", "compare", "--cases", "600"]),
 ]
 
 
 def main():
-    for name, command in PARTS:
+    for name, command in BEFORE:
         run(name, command)
-    print(run("proofs", ["rt", "ci"]), flush=True)
+    count = run("proofs", ["rt", "ci"])
+    for name, command in AFTER:
+        run(name, command)
+    print(count, flush=True)
 
 
 if __name__ == "__main__":
