@@ -1,25 +1,26 @@
 -- More bytes than the longest good case and one cannot matter: from the first 1,069 bytes an input is parsed as from all of it,
 -- since each section that is read lies in the first 1,068. Assumes nothing.
 use Prim.Native.Nat.{ℕ, _+_, _*_, _≤_, _<_}
-use mathlib.Core.Bool.{Bool, true, false, cond, not, _||_}
+use mathlib.Core.Bool.{Bool, true, false, cond, _||_}
 use mathlib.Core.List.{List, [], _∷_, _++_}
-use mathlib.Core.Logic.{⊎-elim}
 use mathlib.Core.Path.{_≡_, refl, sym, ap, _∙_}
 use native.Mathlib.Omega.{arith}
 use borrow.Author.Tests.{lt-ltb, le-ltb, ltb-true, ltb-false}
-use lib.Dec.{ltb, eqb}
+use lib.Dec.{ltb}
 use lib.ListN.{length, take, getD, replicate}
 use lib.Seq.{length-take-le, take-all, getD-take}
 use Rattle.word.specs.Word.{fromLe, numberAt, toLe}
 use Rattle.word.proofs.Part.{bytes-of}
 use Rattle.word.proofs.Table.{same-table}
-use Rattle.case_line.specs.Cases.{numberBytes, numbers, numbersEnd, maxSection, maxTag, longest, numberOf, countAt, numbersBad, sectionAt, after, withData, withSecret, withSalt, withPassword, parsed, paramsOf}
+use Rattle.case_line.specs.Cases.{numberBytes, numbers, numbersEnd, maxSection, longest, countAt, numbersBad, sectionAt, after, withData, withSecret, withSalt, withPassword, parsed}
 use Rattle.case_line.specs.declared.sections.Span.{Span}
 use Rattle.case_line.specs.declared.sections.Section.{Section}
 use Rattle.case_line.specs.declared.sections.Section.the-variants.{Body, Cut}
+use Rattle.case_line.specs.Answers.{answerText, memoryAfter}
+use Rattle.case_line.specs.declared.sections.Case.{Case}
 use Rattle.case_line.specs.declared.sections.Parsed.{Parsed}
 use Rattle.case_line.specs.declared.sections.Parsed.the-variants.{Good, Bad}
-use Rattle.case_line.proofs.Spans.{Lies, sectionBytes, read, Read, followed, good-fits}
+use Rattle.case_line.proofs.Spans.{Lies, sectionBytes, read, Read, good-fits}
 
 -- where a section has room before n, only its count decides
 room : (n at count : ℕ) → at + sectionBytes ≤ n → (ltb n (at + numberBytes) || ltb maxSection count || ltb n (at + numberBytes + count)) ≡ ltb maxSection count
@@ -88,3 +89,38 @@ more-cannot-matter s = go (ltb (longest + 1) (length s)) refl
     go : (t : Bool) → ltb (longest + 1) (length s) ≡ t → parsed (take (longest + 1) s) ≡ parsed s
     go true e = let h = ltb-true (longest + 1) (length s) e in first-bytes (longest + 1) s (omega arith) (omega arith)
     go false e = ap parsed (take-all (longest + 1) s (ltb-false (longest + 1) (length s) e))
+
+-- so the line and the words after it are the same: either all bytes were there, or the case is bad and no byte is hashed
+pub same-answer : (s w : List ℕ) → let first = take (longest + 1) s in
+    (answerText first w (parsed first) ≡ answerText s w (parsed s)) × (memoryAfter first w (parsed first) ≡ memoryAfter s w (parsed s))
+same-answer s w = go (ltb (longest + 1) (length s)) refl
+  where
+    Same : List ℕ → Parsed → Type 0
+    Same x p = (answerText x w p ≡ answerText s w (parsed s)) × (memoryAfter x w p ≡ memoryAfter s w (parsed s))
+
+    long : (p : Parsed) → parsed s ≡ p → longest < length s → Same (take (longest + 1) s) p
+    long (Good c) e h = absurd (omega (arith, good-fits s c e .1))
+    long (Bad k) e h = rw e (refl, refl)
+
+    go : (t : Bool) → ltb (longest + 1) (length s) ≡ t → Same (take (longest + 1) s) (parsed (take (longest + 1) s))
+    go true e = rw (more-cannot-matter s) (long (parsed s) refl (let h = ltb-true (longest + 1) (length s) e in omega arith))
+    go false e = rw (take-all (longest + 1) s (ltb-false (longest + 1) (length s) e)) (refl, refl)
+
+-- a good case has at most that length
+pub longest-good : (s : List ℕ) (c : Case) → parsed s ≡ Good c → length s ≤ longest
+longest-good s c e = good-fits s c e .1
+
+-- and one has it: seven numbers that are 0, and four sections of 255 zeros
+abbrev full : List ℕ
+full = toLe numberBytes numbers ++ replicate (numberBytes * numbers) 0 ++ body ++ body ++ body ++ body
+  where
+    body : List ℕ
+    body = toLe numberBytes maxSection ++ replicate maxSection 0
+
+abbrev isGood : Parsed → Bool
+isGood (Good c) = true
+isGood (Bad k) = false
+
+pub longest-attained : (length full ≡ longest) × (isGood (parsed full) ≡ true)
+unfolding parsed numbersBad numberAt sectionAt withPassword withSalt withSecret withData
+longest-attained = (refl, refl)
