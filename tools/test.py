@@ -42,24 +42,29 @@ def lines_of(command):
 
 
 def run(name, command):
-    """Runs one part and hands back the last line that it printed; ends the whole run where it fails."""
+    """Runs one part and hands back its last line, which is not shown; ends the whole run where the part fails."""
     say(f"{name}: {' '.join(command)}")
-    began, last, shown = time.monotonic(), "", True
+    began, last = time.monotonic(), None
     for item in lines_of(command):
+        passed = int(time.monotonic() - began)
         if item is None:
-            say(f"{name}: at work, {int(time.monotonic() - began)} s so far")
-        elif isinstance(item, int):
-            if item != 0:
-                if not shown:
-                    say(last)
-                say(f"{name}: FAILED with status {item}")
-                sys.exit(item)
-        else:
-            if not shown:
-                say(last)
-            last, shown = item, False
-    say(f"{name}: passed, {int(time.monotonic() - began)} s")
+            say(f"{name}: at work, {passed} s so far")
+            continue
+        if last is not None and item != 0:
+            say(last)
+        if isinstance(item, str):
+            last = item
+        elif item != 0:
+            say(f"{name}: FAILED with status {item}, {passed} s")
+            sys.exit(item)
     return last
+
+
+def part(name, command):
+    """Runs one part, and shows its last line too."""
+    last = run(name, command)
+    if last is not None:
+        say(last)
 
 
 BEFORE = [
@@ -76,10 +81,10 @@ AFTER = [
 
 def main():
     for name, command in BEFORE:
-        run(name, command)
+        part(name, command)
     count = run("proofs", ["rt", "ci"])
     for name, command in AFTER:
-        run(name, command)
+        part(name, command)
     print(count, flush=True)
 
 
