@@ -18,6 +18,9 @@ pub record FeedPromise (s : State) (piece : List ℕ) (r : State) : Type 0 where
 pub record EndPromise (s : State) (r : List ℕ) : Type 0 where
   pub result : r ≡ ended s
 
+pub record OutputAnswerPromise (n most : ℕ) (r : Answer) : Type 0 where
+  pub answer : number r ≡ first (outputRows most n)
+
 -- out stands at entry, out′ at exit
 pub record HashPromise (input out : List ℕ) (r : Answer) (out′ : List ℕ) : Type 0 where
   pub answer : number r ≡ first (outputRows maxOutput (length out))

@@ -13,7 +13,7 @@ ghost use Prim.Native.Nat.{_-_, _<_, _≤_};
 ghost use lib.ListN.{length, take, replicate};
 ghost use Rattle.word.specs.Word.{toLe};
 ghost use Rattle.blake2b.specs.Blake2b.{_!_, maxOutput, bytes};
-ghost use Rattle.blake2b.specs.Promises.{BeginPromise, FeedPromise, EndPromise, HashPromise};
+ghost use Rattle.blake2b.specs.Promises.{BeginPromise, FeedPromise, EndPromise, OutputAnswerPromise, HashPromise};
 
 pub struct State {
     h: [u64; 8],
@@ -158,19 +158,30 @@ fn copy(d: [u8; 64], out: &mut [u8])
     }
 }
 
+// The answer to an output of n bytes, where 1 to most are taken.
+pub fn output_answer(n: usize, most: usize) -> Answer
+    ensures { λ r. ⌜ OutputAnswerPromise n most r ⌝ }
+{
+    if n == 0 {
+        return Answer::OutputTooShort;
+    }
+    if most < n {
+        return Answer::OutputTooLong;
+    }
+    Answer::Accepted
+}
+
 // The hash of the input, of as many bytes as out has: 1 to 64.
 pub fn hash(input: &[u8], out: &mut [u8]) -> Answer
     ensures { λ r. ⌜ HashPromise (now (input .entry)) (now (out .entry)) r (now (out .exit)) ⌝ }
 {
     let n = out.len();
-    if n == 0 {
-        return Answer::OutputTooShort;
-    }
-    if State::MAX_OUTPUT < n {
-        return Answer::OutputTooLong;
+    let a = output_answer(n, State::MAX_OUTPUT);
+    if a.number() != 0 {
+        return a;
     }
     let s = State::begin(n);
     let s = s.feed(input);
     copy(s.end(), out);
-    Answer::Accepted
+    a
 }

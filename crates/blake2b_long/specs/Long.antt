@@ -1,21 +1,35 @@
--- The variable-length hash H' of RFC 9106, 3.3 (document 01, "Variable hash").
-use Prim.Native.Nat.{ℕ, zero, suc, _+_, _-_, _*_, _/_, _^_}
-use mathlib.Core.Bool.{cond}
+-- The variable-length hash H' of RFC 9106, 3.3; document 01, "Variable hash".
+use Prim.Native.Nat.{ℕ, _+_, _-_, _*_, _/_}
 use mathlib.Core.List.{List, [], _∷_, _++_}
-use lib.Dec.{leb}
 use lib.ListN.{take, replicate}
 use Rattle.word.specs.Word.{toLe}
-use Rattle.blake2b.specs.Blake2b.{blake2b, maxOutput}
+use Rattle.blake2b.specs.Blake2b.{maxOutput, blake2b}
 
--- the lengths of the pieces that are put out: up to 64 bytes at once; else 32 while more than 64 remain, then the rest
+-- 3.3, the longest output, 2^32 - 1, and the bytes of LE32
+abbrev pub maxLength : ℕ
+maxLength = 0xffffffff
+
+abbrev pub lengthBytes : ℕ
+lengthBytes = 4
+
+-- 3.3, the bytes of W_i, the first half of a hash
+abbrev pub half : ℕ
+half = 32
+
+-- 3.3, r = ceil(T / 32) - 2; 0 up to 64
+unfoldable pub halves : ℕ → ℕ
+halves n = (n + 31) / half - 2
+
+-- 01, the lengths that are put out: W_1 to W_r, then what remains
 unfoldable pub pieces : ℕ → List ℕ
-pieces n = cond (leb n 64) (n ∷ []) (replicate ((n - 33) / 32) 32 ++ (n - 32 * ((n - 33) / 32)) ∷ [])
+pieces n = replicate (halves n) half ++ (n - half * halves n) ∷ []
 
--- v is the last 64-byte result; each piece but the last is the first half of the next
-unfoldable pub chained : List ℕ → List ℕ → List ℕ
-chained [] v = []
-chained (n ∷ []) v = blake2b n v
-chained (n ∷ m ∷ rest) v = take n (blake2b 64 v) ++ chained (m ∷ rest) (blake2b 64 v)
+-- 3.3, the pieces' bytes, where the first one is a hash of x: W_1 || W_2 || .. || V_(r+1)
+unfoldable pub joined : List ℕ → List ℕ → List ℕ
+joined x [] = []
+joined x (n ∷ []) = blake2b n x
+joined x (n ∷ m ∷ more) = take n (blake2b maxOutput x) ++ joined (blake2b maxOutput x) (m ∷ more)
 
+-- 3.3, H'^T(A), where T is n
 unfoldable pub long : ℕ → List ℕ → List ℕ
-long n input = chained (pieces n) (toLe 4 n ++ input)
+long n input = joined (toLe lengthBytes n ++ input) (pieces n)
