@@ -15,6 +15,11 @@ ROW = re.compile(r"^\| `(?P<function>[\w:]+)` \| `(?P<promise>\w+)` \| `(?P<sett
 FUNCTION = re.compile(r'^(?P<indent> *)pub (?:extern "C" )?fn (?P<name>\w+)')
 
 
+def opens_body(line):
+    """The line, of a function's head, is the one that its body opens on: in the formatter's layout a clause opens on its own."""
+    return line.endswith("{") and not line.strip().startswith(("requires", "ensures"))
+
+
 def public_functions(crate):
     """Yields (path, contract) for each `pub fn`: its name with the crate and the type, and the text between signature and body."""
     for source in sorted((crate / "src").rglob("*.rt")):
@@ -30,7 +35,7 @@ def public_functions(crate):
             if not found:
                 continue
             text, at = [line], number
-            while not (lines[at].rstrip().endswith("{") and "⌜" not in lines[at]):
+            while not opens_body(lines[at]):
                 at += 1
                 text.append(lines[at])
             parts = [crate.name] + ([inside] if inside and found["indent"] else []) + [found["name"]]

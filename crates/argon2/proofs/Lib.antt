@@ -1,1 +1,15 @@
+pub mod Answered
+pub mod Commute
+pub mod Filling
+pub mod HashInput
+pub mod Inner
+pub mod Inputs
+pub mod Jobs
+pub mod Laid
+pub mod LastBlocks
+pub mod Loop
 pub mod Memory
+pub mod Settled
+pub mod Standing
+pub mod StartMemory
+pub mod Tests

@@ -4,7 +4,7 @@ use mathlib.Core.List.{List}
 use lib.ListN.{replicate}
 use Rattle.blake2b.specs.Blake2b.{bytes}
 use Rattle.blake2b_long.specs.Long.{long}
-use Rattle.block.specs.Block.{blockWords, xors}
+use Rattle.block.specs.Block.{blockWords, zeros, xors}
 use Rattle.params.specs.Limits.{slices, segment, blocks}
 use Rattle.params.specs.declared.Params.{Params}
 use Rattle.position.specs.Position.{index}
@@ -14,7 +14,7 @@ use Rattle.argon2.specs.Memory.{block}
 
 -- the XOR of the last blocks of the first n lanes
 unfoldable pub lastBlocks : ℕ → ℕ → List ℕ → List ℕ
-lastBlocks zero s w = replicate blockWords 0
+lastBlocks zero s w = zeros
 lastBlocks (suc n) s w = xors (lastBlocks n s w) (block (index s n (slices * s - 1)) w)
 
 -- the variable hash of the XOR of every lane's last block, words little-endian; n bytes

@@ -2,6 +2,7 @@ pub mod Argon2
 pub mod Calls
 pub mod Filling
 pub mod Initial
+pub mod Inner
 pub mod Jobs
 pub mod Loop
 pub mod Memory

@@ -1,6 +1,187 @@
 // Argon2 (RFC 9106), one block a call, in memory that the caller lends.
-mod job;
+ghost use mathlib.Core.Path.{_≡_};
+ghost use denote.Ref.{now};
+ghost use lib.ListN.{length};
+ghost use Rattle.params.specs.Limits.{segment};
+ghost use Rattle.argon2.specs.Argon2.{filled};
+ghost use Rattle.argon2.specs.Initial.{initialHash, startMemory};
+ghost use Rattle.argon2.specs.Inner.{Lent, Countable};
+ghost use Rattle.argon2.specs.Promises.{StartPromise, StepPromise, FinishPromise, HashPromise, FillMemoryPromise};
 
+mod blocks;
+mod bytes;
+mod checks;
+mod fill;
+mod initial;
+mod job;
+mod tag;
+
+use answer::Answer;
+use checks::check_fill;
+use checks::check_start;
+use fill::fill_all;
+use fill::fill_block;
+use initial::first_blocks;
+use initial::initial_hash;
 pub use job::Job;
 pub use job::Started;
 pub use job::Stepped;
+use params::Params;
+use position::LaneNumber;
+use tag::tag;
+
+// The blocks that every lane begins with: those of the initial hash.
+fn begin(
+    params: Params,
+    tag: usize,
+    password: &[u8],
+    salt: &[u8],
+    secret: &[u8],
+    ad: &[u8],
+    words: &mut [u64],
+)
+    requires { ⌜ Lent params (length (now words))
+        × Countable tag (length (now password)) (length (now salt)) (length (now secret)) (length (now ad)) ⌝ }
+    ensures { λ _. ⌜ now (words .exit)
+        ≡ startMemory (initialHash params tag (now (password .entry)) (now (salt .entry)) (now (secret .entry)) (now (ad .entry)))
+        (params .lanes) (segment params) (now (words .entry)) ⌝ }
+{
+    let h = initial_hash(params, tag, password, salt, secret, ad);
+    first_blocks(words, params, h);
+}
+
+// The blocks that every lane begins with, and then all the others, pass after pass.
+fn complete(
+    params: Params,
+    tag: usize,
+    password: &[u8],
+    salt: &[u8],
+    secret: &[u8],
+    ad: &[u8],
+    words: &mut [u64],
+)
+    requires { ⌜ Lent params (length (now words))
+        × Countable tag (length (now password)) (length (now salt)) (length (now secret)) (length (now ad)) ⌝ }
+    ensures { λ _. ⌜ now (words .exit)
+        ≡ filled params tag (now (password .entry)) (now (salt .entry)) (now (secret .entry)) (now (ad .entry)) (now (words .entry)) ⌝ }
+{
+    begin(params, tag, password, salt, secret, ad, &mut *words);
+    fill_all(words, params);
+}
+
+// Argon2 as a whole: the tag fills out, and the words are left as the filling leaves them. Refused, words and out stay.
+pub fn hash_password_into_with_memory(
+    params: Params,
+    password: &[u8],
+    salt: &[u8],
+    secret: &[u8],
+    ad: &[u8],
+    words: &mut [u64],
+    out: &mut [u8],
+) -> Answer
+    ensures { λ r. ⌜ HashPromise params (now (password .entry)) (now (salt .entry)) (now (secret .entry)) (now (ad .entry)) (now (words .entry))
+        (now (out .entry)) r (now (words .exit)) (now (out .exit)) ⌝ }
+{
+    let n = out.len();
+    let answer = check_start(
+        params,
+        n,
+        password.len(),
+        salt.len(),
+        secret.len(),
+        ad.len(),
+        words.len(),
+    );
+    if answer.number() != 0 {
+        return answer;
+    }
+    complete(params, n, password, salt, secret, ad, &mut *words);
+    tag(&*words, params, out);
+    answer
+}
+
+// The filling alone, its initial hash taken with tag length 0. Refused, the words stay.
+pub fn fill_memory(
+    params: Params,
+    password: &[u8],
+    salt: &[u8],
+    secret: &[u8],
+    ad: &[u8],
+    words: &mut [u64],
+) -> Answer
+    ensures { λ r. ⌜ FillMemoryPromise params (now (password .entry)) (now (salt .entry)) (now (secret .entry)) (now (ad .entry)) (now (words .entry))
+        r (now (words .exit)) ⌝ }
+{
+    let answer = check_fill(
+        params,
+        password.len(),
+        salt.len(),
+        secret.len(),
+        ad.len(),
+        words.len(),
+    );
+    if answer.number() != 0 {
+        return answer;
+    }
+    complete(params, 0, password, salt, secret, ad, words);
+    answer
+}
+
+// Start: blocks 0 and 1 of every lane, and the job before the first step. Refused, the words stay and the job is one of zeros.
+pub fn start(
+    params: Params,
+    tag: usize,
+    password: &[u8],
+    salt: &[u8],
+    secret: &[u8],
+    ad: &[u8],
+    words: &mut [u64],
+) -> Started
+    ensures { λ r. ⌜ StartPromise params tag (now (password .entry)) (now (salt .entry)) (now (secret .entry)) (now (ad .entry)) (now (words .entry))
+        r (now (words .exit)) ⌝ }
+{
+    let answer = check_start(
+        params,
+        tag,
+        password.len(),
+        salt.len(),
+        secret.len(),
+        ad.len(),
+        words.len(),
+    );
+    if answer.number() != 0 {
+        let job = Job::zeros();
+        return Started { answer, job };
+    }
+    begin(params, tag, password, salt, secret, ad, words);
+    let job = Job::start(params, tag);
+    Started { answer, job }
+}
+
+// A step: fills the next block of a lane. Refused, it hands back the job that it got and leaves the words.
+pub fn step(job: Job, words: &mut [u64], lane: LaneNumber) -> Stepped
+    ensures { λ r. ⌜ StepPromise job (now (words .entry)) (lane .0) r (now (words .exit)) ⌝ }
+{
+    let answer = job.check_step(words.len(), lane);
+    if answer.number() != 0 {
+        return Stepped { answer, job };
+    }
+    let params = job.params;
+    let block = job.position(lane);
+    fill_block(words, params, job.pass, job.slice, lane, block);
+    let next = job.moved(lane).settled();
+    Stepped { answer, job: next }
+}
+
+// Finish: the tag of a job that is complete fills out. Refused, out stays.
+pub fn finish(job: Job, words: &[u64], out: &mut [u8]) -> Answer
+    ensures { λ r. ⌜ FinishPromise job (now (words .entry)) (now (out .entry)) r (now (out .exit)) ⌝ }
+{
+    let answer = job.check_finish(words.len(), out.len());
+    if answer.number() != 0 {
+        return answer;
+    }
+    let params = job.params;
+    tag(words, params, out);
+    answer
+}

@@ -41,6 +41,14 @@ impl Params {
 
     pub const MIN_TAG: u32 = 4;
 
+    // The least salt, and the most associated data.
+    pub const MIN_SALT: usize = 8;
+
+    pub const MAX_DATA: usize = 32;
+
+    // The most bytes of a password, a salt, a secret and a tag.
+    pub const MAX_LENGTH: usize = 0xffff_ffff;
+
     // The first of document 01's rows 3 to 7 that holds.
     pub fn check_costs(lanes: u32, memory: u32, passes: u32) -> Answer
         ensures { λ r. ⌜ CostsPromise lanes memory passes r ⌝ }

@@ -1,6 +1,6 @@
 -- When a reference position is accepted, what is then known of its numbers, and what its promise comes to. For the proof of the code,
 -- and for those of the crates above. Assumes nothing.
-use mathlib.Core.Bool.{Bool, true, false, _&&_, and-eq-true-iff}
+use mathlib.Core.Bool.{true, false, _&&_, and-eq-true-iff}
 use mathlib.Core.List.{[], _∷_}
 use mathlib.Core.Logic.{_≢_}
 use mathlib.Core.Path.{_≡_, sym, ap, _∙_}

@@ -1,6 +1,6 @@
 -- `address-free`: in an addressed segment the random word, and so the reference, is a function of lanes, memory cost, passes and algorithm, of
 -- pass, slice, lane and block: whatever word 0 of the previous block is, and whatever else the parameters say. Assumes nothing.
-use mathlib.Core.Bool.{Bool, true, false, cond}
+use mathlib.Core.Bool.{Bool, true, cond}
 use mathlib.Core.Path.{_≡_, ap, sym, _∙_}
 use Prim.Native.Nat.{ℕ}
 use Rattle.params.specs.Limits.{segment}

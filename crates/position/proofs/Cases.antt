@@ -1,8 +1,8 @@
 -- Document 01, "Cases": what P1 to P8 and P10 say of sizes and positions, one record, one statement. Each line cites a definition that the
 -- promises use. Assumes nothing.
-use mathlib.Core.Bool.{Bool, true, false}
-use mathlib.Core.Path.{_≡_, refl, ap, _∙_}
-use Prim.Native.Nat.{ℕ, _+_, _-_, _*_, _/_, _%_, _^_, _<_}
+use mathlib.Core.Bool.{true, false}
+use mathlib.Core.Path.{_≡_, refl}
+use Prim.Native.Nat.{ℕ, _-_, _*_, _^_}
 use native.Mathlib.Nat.{zero-mod}
 use native.Mathlib.Omega.{arith}
 use borrow.Author.Tests.{eq-eqb}

@@ -1,16 +1,16 @@
 -- `window`: document 01's area is the size of RFC 9106's set W, and its reference block is the entry zz of W. Every part of W is a ring of
 -- columns, and so is W: it begins at `start` and has `area` columns. Assumes nothing.
-use mathlib.Core.Bool.{Bool, true, false, cond, not, _&&_}
+use mathlib.Core.Bool.{Bool, true, false, cond}
 use mathlib.Core.List.{List, [], _∷_, _++_}
 use mathlib.Core.Path.{_≡_, refl, sym, ap, _∙_}
-use Prim.Native.Nat.{ℕ, zero, suc, _+_, _-_, _*_, _/_, _%_, _^_, _≤_, _<_}
+use Prim.Native.Nat.{ℕ, zero, suc, _+_, _-_, _*_, _%_, _^_, _≤_, _<_}
 use native.Mathlib.Nat.{mod-eq-of-lt, add-mul-mod-self-right, add-mod-right}
 use native.Mathlib.Omega.{arith}
 use lib.Dec.{eqb, ltb}
 use lib.ListN.{length, getD}
 use borrow.Author.Tests.{eqb-true, eqb-false, ne-eqb, ltb-true, ltb-false, lt-ltb, le-ltb}
 use Rattle.params.specs.Limits.{slices}
-use Rattle.position.specs.Position.{column, previousColumn, referenceLane, finished, area, place, start, referenceColumn}
+use Rattle.position.specs.Position.{column, previousColumn, finished, area, place, start, referenceColumn}
 use Rattle.position.specs.Window.{computedSlices, last, blocksOf, finishedBlocks, excluding, currentBlocks, butLast, W, zz}
 use Rattle.position.proofs.Accepted.{Filled}
 use Rattle.position.proofs.Bound.{own, area-bound, share-lt}
@@ -172,12 +172,20 @@ module _ (s r sl : ℕ) (four : sl < slices) where
           let all : n ≡ m = omega arith in
           e ∙ ap (λ (z : ℕ). ring s (start s r sl) z) all
 
+  -- what is left is the area, in the own lane and in another
+  own-area : (k : ℕ) → finished s r sl + (k - 1) - cond (eqb k 0) 1 0 ≡ area s r sl k true
+  unfolding area
+  own-area k = own-count (finished s r sl) k
+
+  other-area : (k : ℕ) → finished s r sl - cond (eqb k 0) 1 0 ≡ area s r sl k false
+  unfolding area
+  other-area k = refl
+
   W-ring : (k : ℕ) (own : Bool) → k ≤ s → W s r sl k own ≡ ring s (start s r sl) (area s r sl k own)
-  unfolding W area
+  unfolding W
   W-ring k true inside =
-      dropped (finishedBlocks s r sl ++ currentBlocks s sl k) k (finished s r sl + (k - 1)) (finished s r sl + k - 1) (own-ring k inside) (own-count (finished s r sl) k)
-  W-ring k false inside =
-      dropped (finishedBlocks s r sl) k (finished s r sl) (finished s r sl - cond (eqb k 0) 1 0) finished-ring refl
+      dropped (finishedBlocks s r sl ++ currentBlocks s sl k) k (finished s r sl + (k - 1)) (area s r sl k true) (own-ring k inside) (own-area k)
+  W-ring k false inside = dropped (finishedBlocks s r sl) k (finished s r sl) (area s r sl k false) finished-ring (other-area k)
 
 module _ {p s t r sl l k : ℕ} (two : 2 ≤ s) (f : Filled p s t r sl l k) (x : ℕ) where
   pub window : IsWindow p s r sl l k x

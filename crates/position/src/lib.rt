@@ -2,7 +2,6 @@
 ghost use mathlib.Core.Bool.{cond};
 ghost use mathlib.Core.Path.{_≡_};
 ghost use Prim.Native.Nat.{_+_, _-_, _*_, _%_, _≤_, _<_};
-ghost use Rattle.answer.specs.Answers.{number};
 ghost use Rattle.params.specs.Limits.{slices, maxMemory, segmentLength};
 ghost use Rattle.position.specs.Position as spec;
 ghost use Rattle.position.specs.Promises.{FirstBlockPromise, InMemoryPromise, ReferencePromise};

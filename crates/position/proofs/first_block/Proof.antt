@@ -4,4 +4,4 @@ use Rattle.position.proofs.first_block.Tie as tie
 
 pub first-block-spec : {M : Type 1} → statement M
 first-block-spec =
-    tie.close (tie.spec (λ c. record { result = rw (c .if1 .taken) }) (λ c. record { result = rw (c .if1 .left) }))
+    tie.close (tie.spec (λ c. record { result = simp (c .if1 .taken) }) (λ c. record { result = simp (c .if1 .left) }))

@@ -9,7 +9,7 @@ use Rattle.position.proofs.reference_lane.Tie as tie
 
 returns : tie.Need-returns
 unfolding referenceLane
-returns c = rw (c .if1 .taken)
+returns c = simp (c .if1 .taken)
 
 cast-number : tie.Need-cast-t12
 cast-number c =
@@ -17,7 +17,7 @@ cast-number c =
 
 returns-2 : tie.Need-returns-2
 unfolding referenceLane
-returns-2 c = rw (c .if1 .left)
+returns-2 c = simp (c .if1 .left)
 
 pub reference-lane-spec : {M : Type 1} → statement M
 reference-lane-spec = tie.close (tie.spec returns (λ c. search needs) cast-number returns-2)

@@ -1,6 +1,5 @@
 -- `position::reference_position` meets its contract: the costs' rows, then row 17, and what the accepted position is.
 -- Assumes nothing.
-use mathlib.Core.Bool.{true, false}
 use mathlib.Core.Path.{_≡_, refl, sym, ap, _∙_}
 use borrow.Author.Needs.{needs}
 use borrow.Author.Tests.{not-true, not-false}

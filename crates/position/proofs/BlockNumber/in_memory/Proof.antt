@@ -1,24 +1,23 @@
--- `position::BlockNumber::in_memory` meets its contract: two half words and a product of two fit a word. Assumes nothing.
+-- `position::BlockNumber::in_memory` meets its contract: a product of two half words and a half word fit a word. Assumes nothing.
 use Prim.Native.Nat.{ℕ, _+_, _*_, _^_, _<_}
 use native.Mathlib.Nat.{le-of-lt, mul-le-mul-left}
 use native.Mathlib.Omega.{arith}
 use borrow.Author.Needs.{needs}
 use lib.Arith.{digits-lt}
+use Rattle.block.proofs.Mixing.{product-lt}
 use Rattle.position.proofs.BlockNumber.in_memory.Statement.{statement}
 use Rattle.position.proofs.BlockNumber.in_memory.Tie as tie
 
-fits : (q l c : ℕ) → q < 2 ^ 32 → l < 2 ^ 32 → c < 2 ^ 32 → l * q + c < 2 ^ 64
-fits q l c hq hl hc =
+sum-lt : (q l c : ℕ) → q < 2 ^ 32 → l < 2 ^ 32 → c < 2 ^ 32 → l * q + c < 2 ^ 64
+sum-lt q l c hq hl hc =
     omega (arith, mul-le-mul-left l (le-of-lt hq), digits-lt {q = l} {m = 2 ^ 32} {r = c} {c = 2 ^ 32} hl hc)
 
 mul-result : tie.Need-mul-result
-mul-result c =
-    let a = c .before .args in omega (arith, fits (a .length) (a .lane .0) 0 (omega arith) (omega arith) (omega arith))
+mul-result c = record { fits = product-lt 32 (omega arith) (omega arith) }
 
 add-result : tie.Need-add-result
-add-result c =
-    let a = c .before .before .args in
-    omega (arith, fits (a .length) (a .lane .0) (a .self .0) (omega arith) (omega arith) (omega arith))
+add-result c = record { fits = sum-lt _ _ _ (omega arith) (omega arith) (omega arith) }
 
 pub in-memory-spec : {M : Type 1} → statement M
-in-memory-spec = tie.close (tie.spec (λ c. search needs) mul-result (λ c. search needs) add-result (λ c. search needs))
+in-memory-spec =
+    tie.close (tie.spec (λ c. search needs) mul-result (λ c. search needs) add-result (λ c. search needs))

@@ -1,0 +1,41 @@
+-- A loop of the code that goes over memory as `loop` does: after each turn, what is left of it leads to the same end. Assumes nothing.
+use Prim.Native.Nat.{ℕ, zero, suc, _+_, _-_, _≤_, _<_}
+use mathlib.Core.List.{List}
+use mathlib.Core.Path.{_≡_, refl, sym, ap, _∙_}
+use native.Mathlib.Omega.{arith}
+use lib.ListN.{length}
+use Rattle.argon2.specs.Loop.{loop}
+
+-- the loop of f up to n, that began with the memory w₀ and leads to end, stands at turn i with the memory w, which is as long
+pub record Leads (n : ℕ) (f : ℕ → List ℕ → List ℕ) (end w₀ w : List ℕ) (i : ℕ) : Type 0 where
+  pub upto : i ≤ n
+  pub long : length w ≡ length w₀
+  pub left : loop (n - i) i f w ≡ end
+
+pub leads-first : (n i : ℕ) (f : ℕ → List ℕ → List ℕ) (w : List ℕ) → i ≤ n → Leads n f (loop (n - i) i f w) w w i
+leads-first n i f w h = record { upto = h; long = refl; left = refl }
+
+pub leads-zero : (n : ℕ) (f : ℕ → List ℕ → List ℕ) (w : List ℕ) → Leads n f (loop n 0 f w) w w 0
+leads-zero n f w =
+    let m : n - 0 ≡ n = omega arith in
+    record { upto = omega arith; long = refl; left = ap (λ (j : ℕ). loop j 0 f w) m }
+
+module _ {n : ℕ} {f : ℕ → List ℕ → List ℕ} {end w₀ w : List ℕ} {i : ℕ} (leads : Leads n f end w₀ w i) where
+  -- one turn
+  pub leads-next : (w′ : List ℕ) → i < n → w′ ≡ f i w → length w′ ≡ length w → Leads n f end w₀ w′ (i + 1)
+  leads-next w′ h e l =
+      let m : n - i ≡ suc (n - (i + 1)) = omega arith in
+      record {
+        upto = omega arith;
+        long = l ∙ leads .long;
+        left =
+            ap (λ (v : List ℕ). loop (n - (i + 1)) (i + 1) f v) e
+            ∙ sym (ap (λ (j : ℕ). loop j i f w) m)
+            ∙ leads .left;
+      }
+
+  -- no turn is left
+  pub leads-last : n ≤ i → w ≡ end
+  leads-last h =
+      let m : n - i ≡ zero = omega (arith, leads .upto) in
+      sym (ap (λ (j : ℕ). loop j i f w) m) ∙ leads .left

@@ -1,0 +1,67 @@
+-- `argon2::fill_memory` meets its contract: refused, the words stay; accepted, the rows say that the memory has the blocks and that the counts
+-- fit. Assumes nothing.
+use Prim.Native.Nat.{ℕ}
+use mathlib.Core.List.{List}
+use mathlib.Core.Path.{_≡_, sym, _∙_}
+use native.Mathlib.Omega.{arith}
+use lib.ListN.{length}
+use borrow.Author.Needs.{needs}
+use Rattle.answer.specs.Answers.{first}
+use Rattle.argon2.specs.Argon2.{filled}
+use Rattle.argon2.specs.Calls.{memoryFilled}
+use Rattle.argon2.specs.Rows.{fillRows}
+use Rattle.argon2.proofs.Answered.{left-new, left-old}
+use Rattle.argon2.proofs.Inputs.{fill-lent, fill-countable}
+use Rattle.argon2.proofs.fill_memory.Statement.{statement}
+use Rattle.argon2.proofs.fill_memory.Tie as tie
+
+-- the number of the answer, and the memory after
+abbrev answer : tie.Start → ℕ
+answer s =
+    let a = s .args in
+    first (fillRows (a .params) (length (a .password .now)) (length (a .salt .now)) (length (a .secret .now)) (length (a .ad .now)) (length (a .words .now)))
+
+abbrev memory : tie.Start → List ℕ
+memory s = let a = s .args in filled (a .params) 0 (a .password .now) (a .salt .now) (a .secret .now) (a .ad .now) (a .words .now)
+
+numbered : (c : tie.After-number) → c .number .result ≡ answer (c .before .before .before .before .before .before .before)
+numbered c = c .number .ensures .result ∙ c .before .check-fill .ensures
+
+accepted : (c : tie.Else1) → answer (c .before .before .before .before .before .before .before .before) ≡ 0
+accepted c = omega (arith, numbered (c .before), c .if1 .left)
+
+returns : tie.Need-returns
+unfolding memoryFilled
+returns c =
+    let s = c .before .before .before .before .before .before .before .before in
+    let refused : answer s ≡ 0 → ⊥ = λ z. c .if1 .taken (numbered (c .before) ∙ z) in
+    record {
+      answer = c .before .before .check-fill .ensures;
+      memory = sym (left-old (answer s) (memory s) (s .args .words .now) refused);
+    }
+
+complete-requires : tie.Need-complete-requires
+complete-requires c κs =
+    let e = c .before in
+    let a = e .before .before .before .before .before .before .before .before .args in
+    let pw = length (a .password .now) in
+    let salt = length (a .salt .now) in
+    let secret = length (a .secret .now) in
+    let ad = length (a .ad .now) in
+    let words = length (a .words .now) in
+    (fill-lent (a .params) pw salt secret ad words (accepted e), fill-countable (a .params) pw salt secret ad words (accepted e))
+
+returns-2 : tie.Need-returns-2
+unfolding memoryFilled
+returns-2 c =
+    let f = c .before .before in
+    let e = f .before .before in
+    let s = e .before .before .before .before .before .before .before .before in
+    record {
+      answer = e .before .before .check-fill .ensures;
+      memory = f .complete .ensures ∙ sym (left-new (answer s) (memory s) (s .args .words .now) (accepted e));
+    }
+
+pub fill-memory-spec : {M : Type 1} → statement M
+fill-memory-spec =
+    tie.close (tie.spec (λ c κs. search needs) (λ c κs. search needs) returns complete-requires (λ c. search needs) returns-2)

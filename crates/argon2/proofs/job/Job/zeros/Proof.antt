@@ -1,0 +1,12 @@
+-- `argon2::job::Job::zeros` meets its contract. Assumes nothing.
+use mathlib.Core.Path.{refl}
+use Rattle.argon2.specs.Jobs.{zeroJob}
+use Rattle.argon2.proofs.job.Job.zeros.Statement.{statement}
+use Rattle.argon2.proofs.job.Job.zeros.Tie as tie
+
+returns : tie.Need-returns
+unfolding zeroJob
+returns c = record { result = refl }
+
+pub zeros-spec : {M : Type 1} → statement M
+zeros-spec = tie.close (tie.spec returns)

@@ -1,0 +1,48 @@
+-- What the crate's own functions require and leave: parameters that are accepted, in a memory of so many words, there a block that a step
+-- fills, and the memory with a block stored; and inputs that can be counted.
+use Prim.Native.Nat.{ℕ, _+_, _*_, _≤_, _<_}
+use mathlib.Core.Bool.{cond}
+use mathlib.Core.List.{List}
+use mathlib.Core.Path.{_≡_}
+use Rattle.answer.specs.Answers.{first}
+use Rattle.block.specs.Block.{blockWords, xors}
+use Rattle.params.specs.Limits.{rows, slices, segment, blocks}
+use Rattle.params.specs.declared.Params.{Params}
+use Rattle.position.specs.Position.{firstBlock}
+use Rattle.argon2.specs.Filling.{overwrites}
+use Rattle.argon2.specs.Memory.{block, put}
+use Rattle.argon2.specs.Rows.{maxLength}
+
+-- "Domain and sizes": a memory of so many words has block b
+abbrev pub Has : ℕ → ℕ → Type 0
+Has words b = blockWords * b + blockWords ≤ words
+
+-- rows 1 to 8 accept the parameters, and the memory has all their blocks
+pub record Lent (P : Params) (words : ℕ) : Type 0 where
+  pub accepted : first (rows P) ≡ 0
+  pub enough : blockWords * blocks P ≤ words
+
+-- "Domain and sizes": a tag of n bytes, and inputs of so many, whose counts 4 bytes hold
+pub record Countable (n password salt secret ad : ℕ) : Type 0 where
+  pub of-tag : n ≤ maxLength
+  pub of-password : password ≤ maxLength
+  pub of-salt : salt ≤ maxLength
+  pub of-secret : secret ≤ maxLength
+  pub of-ad : ad ≤ maxLength
+
+-- "The job": pass, slice and lane are those of a segment
+pub record Segment (P : Params) (r sl l words : ℕ) : Type 0 where
+  pub lent : Lent P words
+  pub pass : r < P .passes
+  pub slice : sl < slices
+  pub lane : l < P .lanes
+
+-- and the block is one that a step fills
+pub record Fillable (P : Params) (r sl l k words : ℕ) : Type 0 where
+  pub of : Segment P r sl l words
+  pub from : firstBlock r sl ≤ k
+  pub inside : k < segment P
+
+-- "Store": the memory once the words new are stored at block b
+abbrev pub stored : Params → ℕ → ℕ → List ℕ → List ℕ → List ℕ
+stored P r b new w = put b (cond (overwrites P r) new (xors (block b w) new)) w

@@ -1,0 +1,301 @@
+// Document 01's rules of filling: one block, and all of them in the order of RFC 9106.
+ghost use mathlib.Core.Bool.{true, false};
+ghost use mathlib.Core.Path.{_≡_};
+ghost use Prim.Native.Nat.{_<_};
+ghost use denote.Ref.{now};
+ghost use lib.ListN.{getD, length};
+ghost use Rattle.answer.specs.Answers.{first};
+ghost use Rattle.params.specs.Limits.{slices, segment};
+ghost use Rattle.position.specs.Address.{addressed, addressBlock, addressCounter, addressPlace};
+ghost use Rattle.position.specs.Position as position;
+ghost use Rattle.argon2.specs.Filling as spec;
+ghost use Rattle.argon2.specs.Inner.{Has, Lent, Segment, Fillable, stored};
+ghost use Rattle.argon2.specs.Memory as memory;
+use crate::blocks::read_block;
+use crate::blocks::write_block;
+use block::Block;
+use params::Params;
+use position::BlockNumber;
+use position::LaneNumber;
+use position::first_block;
+use position::reference_position;
+
+// Argon2id takes its random words from address blocks in so many slices, of pass 0.
+const ADDRESSED_SLICES: u32 = 2;
+
+// Whether a segment's random words come from address blocks: Argon2i always, Argon2id in pass 0, slices 0 and 1.
+fn is_addressed(params: Params, pass: u32, slice: u32) -> bool
+    ensures { λ r. ⌜ r ≡ addressed params pass slice ⌝ }
+{
+    (params.algorithm == Params::I)
+        | ((params.algorithm == Params::ID) & (pass == 0) & (slice < ADDRESSED_SLICES))
+}
+
+// The address block with this counter: the compression, twice with a zero block, of the segment's numbers.
+fn address_block(params: Params, pass: u32, slice: u32, lane: LaneNumber, counter: u32) -> Block
+    ensures { λ r. ⌜ r .words ≡ addressBlock params pass slice (lane .0) counter ⌝ }
+{
+    let mut input = [0; Block::WORDS];
+    input[0] = pass as u64;
+    input[1] = lane.0 as u64;
+    input[2] = slice as u64;
+    input[3] = params.block_count() as u64;
+    input[4] = params.passes as u64;
+    input[5] = params.algorithm as u64;
+    input[6] = counter as u64;
+    let once = Block::compress(Block::new(), Block { words: input });
+    Block::compress(Block::new(), once)
+}
+
+// The counter of the address block that a block takes its word from: one address block is for as many blocks as it has words.
+fn address_counter(block: u32) -> u32
+    ensures { λ r. ⌜ r ≡ addressCounter block ⌝ }
+{
+    block / Block::WORDS as u32 + 1
+}
+
+// The word of its address block that a block takes.
+fn address_word(addresses: &[u64; Block::WORDS], block: u32) -> u64
+    ensures { λ r. ⌜ r ≡ getD (now (addresses .entry)) (addressPlace block) 0 ⌝ }
+{
+    let at = block as usize % Block::WORDS;
+    addresses[at]
+}
+
+// The number in memory of a lane's block at a column.
+fn index(params: Params, lane: LaneNumber, column: BlockNumber) -> usize
+    ensures { λ r. ⌜ r ≡ position.index (segment params) (lane .0) (column .0) ⌝ }
+{
+    column.in_memory(lane, params.lane_length())
+}
+
+// The column of a block of a slice.
+fn column(params: Params, slice: u32, block: u32) -> BlockNumber
+    requires { ⌜ (slice < slices) × (block < segment params) ⌝ }
+    ensures { λ r. ⌜ r .0 ≡ position.column (segment params) slice block ⌝ }
+{
+    BlockNumber(slice * params.segment_length() + block)
+}
+
+// The column of the block before; before a lane's first block, in a later pass, stands its last.
+fn previous_column(params: Params, slice: u32, block: u32) -> BlockNumber
+    requires { ⌜ (slice < slices) × (block < segment params) ⌝ }
+    ensures { λ r. ⌜ r .0 ≡ position.previousColumn (segment params) slice block ⌝ }
+{
+    let at = column(params, slice, block).0;
+    if at == 0 {
+        return BlockNumber(params.lane_length() - 1);
+    }
+    BlockNumber(at - 1)
+}
+
+// The number in memory of the block itself.
+fn current_index(params: Params, slice: u32, lane: LaneNumber, block: u32) -> usize
+    requires { ⌜ (slice < slices) × (block < segment params) ⌝ }
+    ensures { λ r. ⌜ r ≡ spec.currentIndex params slice (lane .0) block ⌝ }
+{
+    index(params, lane, column(params, slice, block))
+}
+
+// The number in memory of the previous block.
+fn previous_index(params: Params, slice: u32, lane: LaneNumber, block: u32) -> usize
+    requires { ⌜ (slice < slices) × (block < segment params) ⌝ }
+    ensures { λ r. ⌜ r ≡ spec.previousIndex params slice (lane .0) block ⌝ }
+{
+    index(params, lane, previous_column(params, slice, block))
+}
+
+// The number in memory of the reference block that the random word gives.
+fn reference_index(
+    params: Params,
+    pass: u32,
+    slice: u32,
+    lane: LaneNumber,
+    block: u32,
+    word: u64,
+) -> usize
+    requires { ⌜ first (position.positionRows (params .lanes) (params .memory) (params .passes) pass slice (lane .0) block) ≡ 0 ⌝ }
+    ensures { λ r. ⌜ r ≡ position.reference (params .lanes) (segment params) pass slice (lane .0) block word ⌝ }
+{
+    let to = reference_position(
+        params.lanes,
+        params.memory,
+        params.passes,
+        pass,
+        slice,
+        lane,
+        block,
+        word,
+    );
+    let column = to.block;
+    index(params, to.lane, column)
+}
+
+// Word 0 of the previous block.
+fn previous_word(words: &[u64], params: Params, slice: u32, lane: LaneNumber, block: u32) -> u64
+    requires { ⌜ (slice < slices) × (block < segment params) × Has (length (now words)) (spec.previousIndex params slice (lane .0) block) ⌝ }
+    ensures { λ r. ⌜ r ≡ getD (memory.block (spec.previousIndex params slice (lane .0) block) (now (words .entry))) 0 0 ⌝ }
+{
+    let first = Block::WORDS * previous_index(params, slice, lane, block);
+    words[first]
+}
+
+// The random word of a block.
+fn random_word(
+    words: &[u64],
+    params: Params,
+    pass: u32,
+    slice: u32,
+    lane: LaneNumber,
+    block: u32,
+) -> u64
+    requires { ⌜ Fillable params pass slice (lane .0) block (length (now words)) ⌝ }
+    ensures { λ r. ⌜ r ≡ spec.wordFor params pass slice (lane .0) block (now (words .entry)) ⌝ }
+{
+    if is_addressed(params, pass, slice) {
+        let addresses = address_block(params, pass, slice, lane, address_counter(block));
+        return address_word(&addresses.words, block);
+    }
+    previous_word(words, params, slice, lane, block)
+}
+
+// Stores a new block: pass 0 or version 16 overwrites; otherwise XOR with what stood there.
+fn store(words: &mut [u64], params: Params, pass: u32, at: usize, new: Block)
+    requires { ⌜ Has (length (now words)) at ⌝ }
+    ensures { λ _. ⌜ now (words .exit) ≡ stored params pass at (new .words) (now (words .entry)) ⌝ }
+{
+    if (pass == 0) | (params.version == Params::V0X10) {
+        write_block(words, at, new);
+        return;
+    }
+    let old = read_block(&*words, at);
+    write_block(words, at, Block::xor(old, new));
+}
+
+// Fills a block whose random word is given: the compression of the previous block and the reference block is stored.
+fn fill_with(
+    words: &mut [u64],
+    params: Params,
+    pass: u32,
+    slice: u32,
+    lane: LaneNumber,
+    block: u32,
+    word: u64,
+)
+    requires { ⌜ Fillable params pass slice (lane .0) block (length (now words)) × (word ≡ spec.wordFor params pass slice (lane .0) block (now words)) ⌝ }
+    ensures { λ _. ⌜ now (words .exit) ≡ spec.fill params pass slice (lane .0) block (now (words .entry)) ⌝ }
+{
+    let previous = read_block(&*words, previous_index(params, slice, lane, block));
+    let reference = read_block(
+        &*words,
+        reference_index(params, pass, slice, lane, block, word),
+    );
+    let new = Block::compress(previous, reference);
+    store(
+        words,
+        params,
+        pass,
+        current_index(params, slice, lane, block),
+        new,
+    );
+}
+
+// Fills a block: finds its random word, and fills with that.
+pub(crate) fn fill_block(
+    words: &mut [u64],
+    params: Params,
+    pass: u32,
+    slice: u32,
+    lane: LaneNumber,
+    block: u32,
+)
+    requires { ⌜ Fillable params pass slice (lane .0) block (length (now words)) ⌝ }
+    ensures { λ _. ⌜ now (words .exit) ≡ spec.fill params pass slice (lane .0) block (now (words .entry)) ⌝ }
+{
+    let word = random_word(&*words, params, pass, slice, lane, block);
+    fill_with(words, params, pass, slice, lane, block, word);
+}
+
+// Fills a segment whose random words come from address blocks. An address block is made when the counter changes, and so at the
+// segment's first block, be it block 0 or block 2.
+fn fill_addressed(words: &mut [u64], params: Params, pass: u32, slice: u32, lane: LaneNumber)
+    requires { ⌜ Segment params pass slice (lane .0) (length (now words)) × (addressed params pass slice ≡ true) ⌝ }
+    ensures { λ _. ⌜ now (words .exit) ≡ spec.fillSegment params pass slice (lane .0) (now (words .entry)) ⌝ }
+{
+    let end = params.segment_length();
+    let mut made = 0;
+    let mut addresses = Block::new();
+    let mut block = first_block(pass, slice);
+    while block < end {
+        let counter = address_counter(block);
+        if made != counter {
+            made = counter;
+            addresses = address_block(params, pass, slice, lane, counter);
+        }
+        let word = address_word(&addresses.words, block);
+        fill_with(&mut *words, params, pass, slice, lane, block, word);
+        block += 1;
+    }
+}
+
+// Fills a segment whose random words come from the blocks before.
+fn fill_dependent(words: &mut [u64], params: Params, pass: u32, slice: u32, lane: LaneNumber)
+    requires { ⌜ Segment params pass slice (lane .0) (length (now words)) × (addressed params pass slice ≡ false) ⌝ }
+    ensures { λ _. ⌜ now (words .exit) ≡ spec.fillSegment params pass slice (lane .0) (now (words .entry)) ⌝ }
+{
+    let end = params.segment_length();
+    let mut block = first_block(pass, slice);
+    while block < end {
+        let word = previous_word(&*words, params, slice, lane, block);
+        fill_with(&mut *words, params, pass, slice, lane, block, word);
+        block += 1;
+    }
+}
+
+// Fills a lane's segment.
+fn fill_segment(words: &mut [u64], params: Params, pass: u32, slice: u32, lane: LaneNumber)
+    requires { ⌜ Segment params pass slice (lane .0) (length (now words)) ⌝ }
+    ensures { λ _. ⌜ now (words .exit) ≡ spec.fillSegment params pass slice (lane .0) (now (words .entry)) ⌝ }
+{
+    if is_addressed(params, pass, slice) {
+        fill_addressed(words, params, pass, slice, lane);
+    } else {
+        fill_dependent(words, params, pass, slice, lane);
+    }
+}
+
+// Fills a slice: the segment of every lane.
+fn fill_slice(words: &mut [u64], params: Params, pass: u32, slice: u32)
+    requires { ⌜ Lent params (length (now words)) × (pass < params .passes) × (slice < slices) ⌝ }
+    ensures { λ _. ⌜ now (words .exit) ≡ spec.fillSlice params pass slice (now (words .entry)) ⌝ }
+{
+    let mut lane = 0;
+    while lane < params.lanes {
+        fill_segment(&mut *words, params, pass, slice, LaneNumber(lane));
+        lane += 1;
+    }
+}
+
+// Fills a pass: every slice.
+fn fill_pass(words: &mut [u64], params: Params, pass: u32)
+    requires { ⌜ Lent params (length (now words)) × (pass < params .passes) ⌝ }
+    ensures { λ _. ⌜ now (words .exit) ≡ spec.fillPass params pass (now (words .entry)) ⌝ }
+{
+    let mut slice = 0;
+    while slice < Params::SYNC_POINTS {
+        fill_slice(&mut *words, params, pass, slice);
+        slice += 1;
+    }
+}
+
+// Fills all: every pass.
+pub(crate) fn fill_all(words: &mut [u64], params: Params)
+    requires { ⌜ Lent params (length (now words)) ⌝ }
+    ensures { λ _. ⌜ now (words .exit) ≡ spec.fillAll params (now (words .entry)) ⌝ }
+{
+    let mut pass = 0;
+    while pass < params.passes {
+        fill_pass(&mut *words, params, pass);
+        pass += 1;
+    }
+}
