@@ -4,12 +4,13 @@ use mathlib.Core.List.{List, _∷_, _++_}
 use mathlib.Core.Path.{_≡_, refl, sym, ap, _∙_}
 use native.Mathlib.Numerals.{add-one}
 use native.Mathlib.Omega.{arith}
-use lib.ListN.{length, getD, drop, replicate, drop-of-length-le}
+use lib.ListN.{length, getD, take, drop, drop-of-length-le}
 use lib.Seq.{drop-cons}
 use Rattle.word.specs.Word.{toLe}
 use Rattle.blake2b.specs.Blake2b.{bytes, blake2b, maxOutput}
 use Rattle.blake2b.specs.Stream.{fresh, feedAll, ended}
 use Rattle.blake2b.specs.declared.State.{State}
+use Rattle.blake2b.proofs.Bytes.{front, length-blake2b}
 use Rattle.blake2b.proofs.Streaming.{cut, streamed}
 use Rattle.blake2b_long.specs.Long.{long, pieces, halves, joined}
 use Rattle.lent.specs.Lent.{digest, digestBytes}
@@ -37,11 +38,14 @@ one-piece : (w : List ℕ) → digest w ≡ blake2b digestBytes (toLe 4 digestBy
 unfolding digest long pieces halves joined
 one-piece w = refl
 
-pub ended-is : (w : List ℕ) (i : ℕ) → length w ≤ i → (s : State) {r : List ℕ} → r ≡ ended s → feedAll s (bytes (drop i w)) ≡ whole w
-    → r ≡ digest w ++ replicate (maxOutput - digestBytes) 0
+pub ended-is : (w : List ℕ) (i : ℕ) → length w ≤ i → (s : State) (h : List ℕ) {r : List ℕ} → r ≡ take digestBytes h → h ≡ ended s
+    → feedAll s (bytes (drop i w)) ≡ whole w → r ≡ digest w
 unfolding feedAll
-ended-is w i h s e e′ =
+ended-is w i l s h e e′ e″ =
     e
-    ∙ ap ended (ap (λ (l : List ℕ). feedAll s (bytes l)) (sym (drop-of-length-le w h)) ∙ e′)
-    ∙ streamed digestBytes (toLe 4 digestBytes ++ bytes w)
-    ∙ ap (λ (d : List ℕ). d ++ replicate (maxOutput - digestBytes) 0) (sym (one-piece w))
+    ∙ ap (take digestBytes)
+    (e′
+    ∙ ap ended (ap (λ (l : List ℕ). feedAll s (bytes l)) (sym (drop-of-length-le w l)) ∙ e″)
+    ∙ streamed digestBytes (toLe 4 digestBytes ++ bytes w))
+    ∙ front digestBytes (blake2b digestBytes (toLe 4 digestBytes ++ bytes w)) (maxOutput - digestBytes) (length-blake2b digestBytes (toLe 4 digestBytes ++ bytes w) (omega arith))
+    ∙ sym (one-piece w)

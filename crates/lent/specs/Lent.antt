@@ -1,12 +1,11 @@
 -- Lent memory by the protocol of oracle/README.md: what it holds before a call, and the digest of what it holds after.
-use Prim.Native.Nat.{ℕ, _+_, _-_, _*_, _/_, _%_, _^_}
+use Prim.Native.Nat.{ℕ, _+_, _*_, _/_, _%_, _^_}
 use mathlib.Core.Bool.{cond}
-use mathlib.Core.List.{List, _++_}
+use mathlib.Core.List.{List}
 use lib.Bits.{bitXor}
 use lib.Dec.{eqb}
-use lib.ListN.{length, replicate}
 use Rattle.word.specs.Table.{table}
-use Rattle.blake2b.specs.Blake2b.{maxOutput, bytes}
+use Rattle.blake2b.specs.Blake2b.{bytes}
 use Rattle.blake2b_long.specs.Long.{long}
 
 -- splitmix64: its state after one step more, and after two products

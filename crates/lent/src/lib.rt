@@ -1,9 +1,9 @@
 // Lent memory as the recorded runs have it: what it holds before a call, by a rule, and a digest of what it holds after.
 ghost use denote.Ref.{now};
-ghost use lib.ListN.{length};
+ghost use lib.ListN.{take};
 ghost use mathlib.Core.Path.{_≡_};
 ghost use Prim.Native.Nat.{_*_, _%_, _^_};
-ghost use Rattle.lent.specs.Lent.{mixed, drawn};
+ghost use Rattle.lent.specs.Lent.{mixed, drawn, digestBytes};
 ghost use Rattle.lent.specs.Promises.{DirtyPromise, DirtyBytesPromise, DigestPromise};
 use blake2b::State;
 use std::num::wrapping_add_u64;
@@ -21,7 +21,7 @@ const FIRST: u64 = 0xbf58_476d_1ce4_e5b9;
 const SECOND: u64 = 0x94d0_49bb_1331_11eb;
 
 // The bytes of a digest.
-const DIGEST: usize = 32;
+pub const DIGEST: usize = 32;
 
 // The product, which wraps at 64 bits.
 fn wrapping_mul(a: u64, b: u64) -> u64
@@ -74,8 +74,21 @@ pub fn dirty_bytes(seed: u64, bytes: &mut [u8])
     }
 }
 
-// The variable-length hash, of 32 bytes and zeros after them, of all words, each little-endian.
-pub fn digest(words: &[u64]) -> [u8; 64]
+// The first bytes of a hash.
+fn front(hash: [u8; State::MAX_OUTPUT]) -> [u8; DIGEST]
+    ensures { λ r. ⌜ r ≡ take digestBytes hash ⌝ }
+{
+    let mut digest = [0u8; DIGEST];
+    let mut i = 0;
+    while i < DIGEST {
+        digest[i] = hash[i];
+        i += 1;
+    }
+    digest
+}
+
+// The variable-length hash, of 32 bytes, of all words, each little-endian.
+pub fn digest(words: &[u64]) -> [u8; DIGEST]
     ensures { λ r. ⌜ DigestPromise (now (words .entry)) r ⌝ }
 {
     let count = to_le32(DIGEST as u32);
@@ -87,5 +100,5 @@ pub fn digest(words: &[u64]) -> [u8; 64]
         s = s.feed(&bytes);
         i += 1;
     }
-    s.end()
+    front(s.end())
 }

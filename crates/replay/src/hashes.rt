@@ -1,22 +1,20 @@
 // The recorded whole hashes, fillings and variable-length hashes.
-ghost use Prim.Native.Nat.{_≤_};
-ghost use Rattle.replay.specs.Texts.{mostBytes};
+use crate::list::LINE;
+use crate::list::NUMBERS;
+use crate::list::Text;
+use crate::list::count_words;
+use crate::list::differs;
+use crate::list::low;
+use crate::list::next_text;
+use crate::list::number;
+use crate::list::numbers;
+use crate::list::report;
+use crate::list::same;
 use answer::Answer;
 use argon2::fill_memory;
 use argon2::hash_password_into_with_memory;
 use blake2b_long::blake2b_long;
 use block::Block;
-use crate::list::at_most;
-use crate::list::differs;
-use crate::list::low;
-use crate::list::number;
-use crate::list::numbers;
-use crate::list::report;
-use crate::list::same;
-use crate::list::text;
-use crate::list::Text;
-use crate::list::LINE;
-use crate::list::NUMBERS;
 use params::Configured;
 use params::Params;
 
@@ -27,9 +25,6 @@ const FILL: u64 = 1;
 
 // The most words that a case is lent: one lane with segments of 129 blocks.
 const WORDS: usize = 516 * Block::WORDS;
-
-// The bytes of a digest.
-const DIGEST: usize = 32;
 
 // A configured length: 0 is absent, else it is one more.
 fn configured(n: u64) -> Configured {
@@ -74,10 +69,10 @@ fn call(
 
 // The call of a case, with the texts that follow its numbers.
 fn answered(fd: i32, n: [u64; NUMBERS], words: &mut [u64], out: &mut [u8]) -> Answer {
-    let password = text(fd);
-    let salt = text(fd);
-    let secret = text(fd);
-    let data = text(fd);
+    let password = next_text(fd);
+    let salt = next_text(fd);
+    let secret = next_text(fd);
+    let data = next_text(fd);
     let p = password.bytes;
     let s = salt.bytes;
     let k = secret.bytes;
@@ -103,18 +98,19 @@ fn agrees(fd: i32, n: [u64; NUMBERS], words: &mut [u64], out: &mut [u8]) -> bool
     lent::dirty(n[10], &mut *words);
     lent::dirty_bytes(n[10], &mut *out);
     let answer = answered(fd, n, &mut *words, &mut *out);
-    let output = same(out, text(fd));
+    let output = same(out, next_text(fd));
     let digest = lent::digest(words);
-    let memory = same(&digest[..DIGEST], text(fd));
+    let memory = same(&digest, next_text(fd));
     (answer.number() as u64 == n[11]) & output & memory
 }
 
 // The next case; whether it agrees.
-fn replay_case(fd: i32, memory: &mut [u64; WORDS]) -> bool {
+fn replay_case(fd: i32, memory: &mut [u64]) -> bool {
     let n = numbers(fd);
-    let count = at_most(n[9], WORDS);
-    let length = at_most(n[8], Text::MOST);
-    let mut out = [0u8; Text::MOST];
+    let count = count_words(n[9], memory);
+    let output = Text::of([0u8; Text::MOST], n[8]);
+    let mut out = output.bytes;
+    let length = output.count;
     let agreed = agrees(fd, n, &mut memory[..count], &mut out[..length]);
     if !agreed {
         differs(b"hashes", n[LINE]);
@@ -122,19 +118,24 @@ fn replay_case(fd: i32, memory: &mut [u64; WORDS]) -> bool {
     agreed
 }
 
+// How many of the cases agree.
+fn agreeing(fd: i32, recorded: u64, memory: &mut [u64]) -> u64 {
+    let mut agree: u64 = 0;
+    let mut i = 0;
+    while i < recorded {
+        if replay_case(fd, &mut *memory) {
+            agree += 1;
+        }
+        i += 1;
+    }
+    agree
+}
+
 // All cases.
 pub(crate) fn replay() {
     let fd = os::open_read(b"hashes");
     let recorded = number(fd);
     let mut memory = [0u64; WORDS];
-    let mut agree: u64 = 0;
-    let mut i = 0;
-    while i < recorded {
-        if replay_case(fd, &mut memory) {
-            agree += 1;
-        }
-        i += 1;
-    }
-    report(b"hashes", recorded, agree);
+    report(b"hashes", recorded, agreeing(fd, recorded, &mut memory));
     libc::close(fd);
 }

@@ -1,6 +1,6 @@
 // A packed list (oracle/pack): a count and so many cases, of numbers, 8 bytes little-endian, and of texts behind their counts.
-ghost use Prim.Native.Nat.{_≤_};
-ghost use Rattle.replay.specs.Texts.{mostBytes};
+ghost use denote.Ref.{now};
+ghost use Rattle.io.specs.Counts.{Counts};
 use libc::STDOUT_FILENO;
 
 // The numbers that a case begins with; the first is its line in the recorded list.
@@ -16,6 +16,20 @@ pub(crate) struct Text {
 
 impl Text {
     pub(crate) const MOST: usize = 256;
+
+    // The text of the first n bytes, at most of all.
+    pub(crate) fn of(bytes: [u8; Text::MOST], n: u64) -> Text
+        ensures { λ r. ⌜ Counts (r .count) (r .bytes) ⌝ }
+    {
+        let most = Text::MOST;
+        if (most as u64) < n {
+            return Text { bytes, count: most };
+        }
+        Text {
+            bytes,
+            count: n as usize,
+        }
+    }
 }
 
 // The next number; 0 behind the list's end.
@@ -36,12 +50,12 @@ pub(crate) fn numbers(fd: i32) -> [u64; NUMBERS] {
     numbers
 }
 
-// The number, or the most where it is more.
-pub(crate) fn at_most(n: u64, most: usize) -> usize
-    ensures { λ r. ⌜ r ≤ most ⌝ }
+// As many of the words as the number says, at most all of them.
+pub(crate) fn count_words(n: u64, words: &[u64]) -> usize
+    ensures { λ r. ⌜ Counts r (now (words .entry)) ⌝ }
 {
-    if (most as u64) < n {
-        return most;
+    if (words.len() as u64) < n {
+        return words.len();
     }
     n as usize
 }
@@ -52,18 +66,20 @@ pub(crate) fn low(n: u64) -> u32 {
 }
 
 // The next text.
-pub(crate) fn text(fd: i32) -> Text
-    ensures { λ r. ⌜ r .count ≤ mostBytes ⌝ }
+pub(crate) fn next_text(fd: i32) -> Text
+    ensures { λ r. ⌜ Counts (r .count) (r .bytes) ⌝ }
 {
-    let count = at_most(number(fd), Text::MOST);
-    let mut bytes = [0u8; Text::MOST];
-    io::read_full(fd, &mut bytes[..count]);
-    Text { bytes, count }
+    let length = number(fd);
+    let empty = Text::of([0u8; Text::MOST], length);
+    let mut bytes = empty.bytes;
+    let room = empty.count;
+    io::read_full(fd, &mut bytes[..room]);
+    Text::of(bytes, length)
 }
 
 // Whether the bytes are those of the text.
 pub(crate) fn same(bytes: &[u8], text: Text) -> bool
-    requires { ⌜ text .count ≤ mostBytes ⌝ }
+    requires { ⌜ Counts (text .count) (text .bytes) ⌝ }
 {
     let expected = text.bytes;
     let count = text.count;

@@ -1,11 +1,11 @@
 // The recorded reference positions.
+use crate::list::LINE;
+use crate::list::NUMBERS;
 use crate::list::differs;
 use crate::list::low;
 use crate::list::number;
 use crate::list::numbers;
 use crate::list::report;
-use crate::list::LINE;
-use crate::list::NUMBERS;
 use position::LaneNumber;
 use position::reference_position;
 
@@ -37,10 +37,8 @@ fn replay_case(fd: i32) -> bool {
     agreed
 }
 
-// All cases.
-pub(crate) fn replay() {
-    let fd = os::open_read(b"positions");
-    let recorded = number(fd);
+// How many of the cases agree.
+fn agreeing(fd: i32, recorded: u64) -> u64 {
     let mut agree: u64 = 0;
     let mut i = 0;
     while i < recorded {
@@ -49,6 +47,13 @@ pub(crate) fn replay() {
         }
         i += 1;
     }
-    report(b"positions", recorded, agree);
+    agree
+}
+
+// All cases.
+pub(crate) fn replay() {
+    let fd = os::open_read(b"positions");
+    let recorded = number(fd);
+    report(b"positions", recorded, agreeing(fd, recorded));
     libc::close(fd);
 }

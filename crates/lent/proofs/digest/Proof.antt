@@ -32,8 +32,8 @@ loop-again c =
 
 returns : tie.Need-returns Inv-loop μ-loop
 returns c =
-    let l = c .before .before .loop in
-    record { result = ended-is _ (l .i) (omega arith) (l .s) (c .end .ensures .result) (l .inv .1) }
+    let l = c .before .before .before .loop in
+    record { result = ended-is _ (l .i) (omega arith) (l .s) _ (c .front .ensures) (c .before .end .ensures .result) (l .inv .1) }
 
 pub digest-spec : {M : Type 1} → statement M
 digest-spec =
@@ -55,5 +55,6 @@ digest-spec =
     (λ c. omega arith)
     (λ c. omega arith)
     loop-again
+    (λ c κs. search needs)
     (λ c κs. search needs)
     returns)
