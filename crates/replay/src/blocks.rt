@@ -1,5 +1,5 @@
 // Compressions of blocks that a rule makes (oracle/blocks has the same rules in Rust).
-ghost use Prim.Native.Nat.{_*_, _<_};
+ghost use Prim.Native.Nat.{_<_};
 ghost use Rattle.block.specs.Block.{blockBytes};
 use block::Block;
 use libc::STDOUT_FILENO;
@@ -14,10 +14,8 @@ const CHAIN: u32 = 1000;
 // The generator's first state.
 const SEED: u64 = 88_172_645_463_325_252;
 
-// The hex digits of a block, and of a word.
-const TEXT: usize = 2 * Block::SIZE;
-
-const DIGITS: usize = TEXT / Block::WORDS;
+// The bytes of a word.
+const WORD: usize = Block::SIZE / Block::WORDS;
 
 // A block of drawn words, and the generator's state after them.
 struct Drawn {
@@ -61,46 +59,32 @@ fn counting(first: u64) -> Block {
     Block { words }
 }
 
-// A hex digit.
-fn digit(n: u8) -> u8
-    requires { ⌜ n < 16 ⌝ }
+// Byte k of a block, each word little-endian.
+fn byte_at(words: &[u64; Block::WORDS], k: usize) -> u8
+    requires { ⌜ k < blockBytes ⌝ }
 {
-    if n < 10 { b'0' + n } else { b'a' + (n - 10) }
+    let bytes = to_le64(words[k / WORD]);
+    bytes[k % WORD]
 }
 
-// A byte's hex digit: the high one at an even place of the text, the low one at an odd place.
-fn half(byte: u8, k: usize) -> u8 {
-    if k % 2 == 0 {
-        digit(byte / 16)
-    } else {
-        digit(byte % 16)
-    }
-}
-
-// Digit k of a block's bytes, each word little-endian.
-fn digit_at(words: &[u64; Block::WORDS], k: usize) -> u8
-    requires { ⌜ k < 2 * blockBytes ⌝ }
-{
-    let bytes = to_le64(words[k / DIGITS]);
-    half(bytes[k % DIGITS / 2], k)
-}
-
-// The text of a block.
-fn hex(b: Block) -> [u8; TEXT] {
-    let mut text = [0u8; TEXT];
+// The bytes of a block.
+fn bytes(b: Block) -> [u8; Block::SIZE] {
+    let mut bytes = [0u8; Block::SIZE];
     let mut k = 0;
-    while k < TEXT {
-        text[k] = digit_at(&b.words, k);
+    while k < Block::SIZE {
+        bytes[k] = byte_at(&b.words, k);
         k += 1;
     }
-    text
+    bytes
 }
 
 // One line: what it is, and the block.
 fn print(name: &[u8], b: Block) {
-    let text = hex(b);
+    let bytes = bytes(b);
+    let mut text = [0u8; 2 * Block::SIZE];
+    let count = hex::write(&bytes, &mut text);
     io::write_all(STDOUT_FILENO, name);
-    io::write_all(STDOUT_FILENO, &text);
+    io::write_all(STDOUT_FILENO, &text[..count]);
     io::write_all(STDOUT_FILENO, b"\n");
 }
 
