@@ -7,11 +7,12 @@ use argon2::hash_password_into_with_memory;
 use argon2::start;
 use blake2b::State;
 use block::Block;
+use lent::digest;
 use libc::STDOUT_FILENO;
 use params::Configured;
 use params::Params;
 use turns::play;
-use word::to_le64;
+use word::to_le32;
 
 // The words that are lent: more than any of these parameters need.
 const LENT: usize = 5125;
@@ -115,18 +116,6 @@ fn first_words(words: &[u64], n: usize) -> &[u64] {
     words
 }
 
-// The digest of words: BLAKE2b of 64 bytes, over their bytes, little-endian.
-fn digest(words: &[u64]) -> [u8; 64] {
-    let mut s = State::begin(State::MAX_OUTPUT);
-    let mut i = 0;
-    while i < words.len() {
-        let b = to_le64(words[i]);
-        s = s.feed(&b);
-        i += 1;
-    }
-    s.end()
-}
-
 // How many of the words behind hold another thing than the mark.
 fn changed(words: &[u64], needed: usize) -> usize {
     let mut n = 0;
@@ -194,8 +183,44 @@ fn in_turns(params: Params, order: u64, words: &mut [u64], needed: usize) {
     write_run(&*words, needed, &tag);
 }
 
+// A number as 4 bytes, and bytes after their count.
+fn feed_number(s: State, n: u32) -> State {
+    let b = to_le32(n);
+    s.feed(&b)
+}
+
+fn feed_counted(s: State, bytes: &[u8]) -> State {
+    let s = feed_number(s, narrow(bytes.len() as u64));
+    s.feed(bytes)
+}
+
+// The initial hash, as RFC 9106 lays out what it is taken of.
+fn initial_hash(params: Params) -> [u8; 64] {
+    let s = State::begin(State::MAX_OUTPUT);
+    let s = feed_number(s, params.lanes);
+    let s = feed_number(s, TAG as u32);
+    let s = feed_number(s, params.memory);
+    let s = feed_number(s, params.passes);
+    let s = feed_number(s, params.version);
+    let s = feed_number(s, params.algorithm);
+    let s = feed_counted(s, &PASSWORD);
+    let s = feed_counted(s, &SALT);
+    let s = feed_counted(s, &SECRET);
+    let s = feed_counted(s, &DATA);
+    s.end()
+}
+
+fn write_initial(params: Params) {
+    write_params(params);
+    io::write_all(STDOUT_FILENO, b"initial ");
+    let h = initial_hash(params);
+    write_bytes(&h);
+    io::write_all(STDOUT_FILENO, b"\n");
+}
+
 // By the whole hash and in every order.
 fn every_way(params: Params, words: &mut [u64]) {
+    write_initial(params);
     let needed = Block::WORDS * params.block_count() as usize;
     dirty(&mut *words, needed, 1);
     at_once(params, &mut *words, needed);

@@ -1,7 +1,10 @@
 // Prints BLAKE2b and variable-length hashes of counting bytes, and RFC 7693's appendix A, in lower-case hex.
 // The file stdout has what another implementation gives (oracle/vectors.py).
+mod argon;
+
 use blake2b::hash;
 use blake2b_long::blake2b_long;
+use hex::digits;
 use libc::STDOUT_FILENO;
 ghost use Prim.Native.Nat.{_<_};
 
@@ -31,26 +34,19 @@ const LONG_OUTPUTS: [usize; 16] = [
 
 const LONG_SIZE: usize = 72;
 
-// The sign of a digit.
-fn digit(n: u8) -> u8
-    requires { ⌜ n < 16 ⌝ }
-{
-    if n < 10 { b'0' + n } else { b'a' + (n - 10) }
-}
-
-// A byte as two digits.
-fn write_byte(b: u8) {
-    let pair = [digit(b / 16), digit(b % 16)];
-    io::write_all(STDOUT_FILENO, &pair);
+// Bytes as digits.
+pub(crate) fn write_bytes(bytes: &[u8]) {
+    let mut i = 0;
+    while i < bytes.len() {
+        let pair = digits(bytes[i]);
+        io::write_all(STDOUT_FILENO, &pair);
+        i += 1;
+    }
 }
 
 // Bytes as digits, and the line's end.
 fn write_hex(bytes: &[u8]) {
-    let mut i = 0;
-    while i < bytes.len() {
-        write_byte(bytes[i]);
-        i += 1;
-    }
+    write_bytes(bytes);
     io::write_all(STDOUT_FILENO, b"\n");
 }
 
@@ -59,17 +55,17 @@ fn write_digit(n: usize, unit: usize)
     requires { ⌜ 0 < unit ⌝ }
 {
     if unit <= n {
-        let d = [digit((n / unit % 10) as u8)];
+        let d = [b'0' + (n / unit % 10) as u8];
         io::write_all(STDOUT_FILENO, &d);
     }
 }
 
 // A number under 10,000 in decimal, and a space.
-fn write_number(n: usize) {
+pub(crate) fn write_number(n: usize) {
     write_digit(n, 1000);
     write_digit(n, 100);
     write_digit(n, 10);
-    let d = [digit((n % 10) as u8)];
+    let d = [b'0' + (n % 10) as u8];
     io::write_all(STDOUT_FILENO, &d);
     io::write_all(STDOUT_FILENO, b" ");
 }
@@ -169,4 +165,5 @@ fn main() {
     let mut room = [0u8; 1024];
     sizes(&bytes, &mut room);
     long_outputs(front(&bytes, LONG_SIZE), &mut room);
+    argon::lines();
 }
