@@ -1,8 +1,8 @@
 #!/usr/bin/env python3
 """Runs every check of the repository: the README's test command.
 
-The parts run one after the other; each line that a part prints is shown with the time since the start.
-The first part that fails ends the run with its status. The last line printed is the last line of `rt ci`.
+The parts run one after the other; each line that a part prints is shown with the time since the start. The first part that
+fails ends the run with its status. The last line of `rt ci`, its count, is kept back and printed as the last line of all.
 """
 import queue
 import subprocess
@@ -42,35 +42,50 @@ def lines_of(command):
 
 
 def run(name, command):
-    """Runs one part and hands back the last line that it printed; ends the whole run where it fails."""
+    """Runs one part and hands back its last line, which is not shown; ends the whole run where the part fails."""
     say(f"{name}: {' '.join(command)}")
-    began, last, shown = time.monotonic(), "", True
+    began, last = time.monotonic(), None
     for item in lines_of(command):
+        passed = int(time.monotonic() - began)
         if item is None:
-            say(f"{name}: at work, {int(time.monotonic() - began)} s so far")
-        elif isinstance(item, int):
-            if item != 0:
-                if not shown:
-                    say(last)
-                say(f"{name}: FAILED with status {item}")
-                sys.exit(item)
-        else:
-            if not shown:
-                say(last)
-            last, shown = item, False
-    say(f"{name}: passed, {int(time.monotonic() - began)} s")
+            say(f"{name}: at work, {passed} s so far")
+            continue
+        if last is not None and item != 0:
+            say(last)
+        if isinstance(item, str):
+            last = item
+        elif item != 0:
+            say(f"{name}: FAILED with status {item}, {passed} s")
+            sys.exit(item)
     return last
 
 
-PARTS = [
+def part(name, command):
+    """Runs one part, and shows its last line too."""
+    last = run(name, command)
+    if last is not None:
+        say(last)
+
+
+BEFORE = [
     ("promises", [sys.executable, "tools/promises.py"]),
+    ("layout", ["rt", "fmt", "--check"]),
+]
+AFTER = [
+    ("oracle", ["oracle/build", "--test"]),
+    ("hosts", ["host/test"]),
+    ("cases", [sys.executable, "tools/vectors.py", "oracle/recorded/cases.jsonl", "./crabuledda", "case"]),
+    ("compare", ["./crabuledda", "compare", "--cases", "600"]),
 ]
 
 
 def main():
-    for name, command in PARTS:
-        run(name, command)
-    print(run("proofs", ["rt", "ci"]), flush=True)
+    for name, command in BEFORE:
+        part(name, command)
+    count = run("proofs", ["rt", "ci"])
+    for name, command in AFTER:
+        part(name, command)
+    print(count, flush=True)
 
 
 if __name__ == "__main__":

@@ -3,7 +3,7 @@
 use mathlib.Core.Path.{_≡_, refl, sym, ap, _∙_, subst}
 use mathlib.Core.Logic.{_≢_, _⊎_, inl, inr}
 use mathlib.Core.Bool.{Bool, true, false, cond, not, _&&_, _||_}
-use mathlib.Core.List.{List, [], _∷_}
+use mathlib.Core.List.{List}
 use Prim.Native.Nat.{ℕ, zero, suc, _+_, _*_, _≤_, _<_}
 use native.Mathlib.Omega.{arith}
 use lib.Dec.{leb, ltb, eqb}
@@ -18,7 +18,7 @@ use Rattle.params.specs.declared.Params.{Params}
 use Rattle.params.proofs.Within.{Within, params-within, two}
 use Rattle.position.specs.Position.{firstBlock}
 use Rattle.argon2.specs.Rows.{outputRows}
-use Rattle.argon2.specs.Jobs.{all, any, position, tagAllowed, laidOut, complete, standsComplete, unfinished, standsInside, consistent, moved, nextSlice, settled, stepRows, finishRows}
+use Rattle.argon2.specs.Jobs.{all, position, tagAllowed, laidOut, complete, standsComplete, unfinished, standsInside, consistent, moved, nextSlice, settled, stepRows, finishRows}
 use Rattle.argon2.specs.declared.job.Job.{Job}
 use Rattle.argon2.proofs.Tests.{and-true, and-of, and-false, or-left, or-right, or-second, all-true, all-of, any-of, any-true}
 

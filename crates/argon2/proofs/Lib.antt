@@ -1,5 +1,6 @@
 pub mod Answered
 pub mod Commute
+pub mod Digests
 pub mod Filling
 pub mod HashInput
 pub mod Inner
@@ -9,7 +10,10 @@ pub mod Laid
 pub mod LastBlocks
 pub mod Loop
 pub mod Memory
+pub mod MemoryCost
 pub mod Settled
 pub mod Standing
 pub mod StartMemory
+pub mod StartWrites
+pub mod Stored
 pub mod Tests

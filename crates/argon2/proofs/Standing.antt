@@ -1,7 +1,7 @@
 -- The tests of a job as its code makes them, lanes from one to another between two blocks, are those of its definition. Assumes nothing.
 use mathlib.Core.Path.{_≡_, refl, sym, ap, _∙_}
 use mathlib.Core.Bool.{Bool, true, false, _&&_, _||_}
-use Prim.Native.Nat.{ℕ, _≤_, _<_}
+use Prim.Native.Nat.{ℕ, _<_}
 use native.Mathlib.Omega.{arith}
 use lib.Dec.{leb, ltb, eqb}
 use lib.ListN.{length}
@@ -9,7 +9,7 @@ use borrow.Author.Tests.{eqb-true, eqb-false, le-leb, lt-leb, le-ltb, eq-eqb}
 use Rattle.params.specs.Limits.{maxLanes}
 use Rattle.argon2.specs.Jobs.{all, position, laidOut}
 use Rattle.argon2.specs.declared.job.Job.{Job}
-use Rattle.argon2.proofs.Tests.{and-of, and-false, all-same}
+use Rattle.argon2.proofs.Tests.{and-of, all-same}
 
 -- between 0 and 0
 is-zero : (x : ℕ) → leb 0 x && leb x 0 ≡ eqb x 0

@@ -27,9 +27,9 @@ pub(crate) fn write_block(words: &mut [u64], b: usize, x: Block)
     ensures { λ _. ⌜ now (words .exit) ≡ spec.put b (x .words) (now (words .entry)) ⌝ }
 {
     let first = Block::WORDS * b;
-    let mut i = 0;
-    while i < Block::WORDS {
-        words[first + i] = x.words[i];
-        i += 1;
+    let mut at = 0;
+    while at < Block::WORDS {
+        words[first + at] = x.words[at];
+        at += 1;
     }
 }

@@ -45,9 +45,10 @@ fn feed_counted(state: State, bytes: &[u8]) -> State
 fn feed_header(state: State, params: Params, tag: u32) -> State
     ensures { λ r. ⌜ r ≡ feedAll state (header params tag) ⌝ }
 {
+    let memory = params.memory;
     let s = feed_number(state, params.lanes);
     let s = feed_number(s, tag);
-    let s = feed_number(s, params.memory);
+    let s = feed_number(s, memory);
     let s = feed_number(s, params.passes);
     let s = feed_number(s, params.version);
     feed_number(s, params.algorithm)

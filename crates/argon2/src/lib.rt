@@ -177,11 +177,11 @@ pub fn step(job: Job, words: &mut [u64], lane: LaneNumber) -> Stepped
 pub fn finish(job: Job, words: &[u64], out: &mut [u8]) -> Answer
     ensures { λ r. ⌜ FinishPromise job (now (words .entry)) (now (out .entry)) r (now (out .exit)) ⌝ }
 {
-    let answer = job.check_finish(words.len(), out.len());
-    if answer.number() != 0 {
-        return answer;
+    let checked = job.check_finish(words.len(), out.len());
+    if checked.number() != 0 {
+        return checked;
     }
     let params = job.params;
     tag(words, params, out);
-    answer
+    checked
 }

@@ -1,17 +1,16 @@
 -- The bytes of a list of words, and a loop that copies a list's front. Assumes nothing.
-use Prim.Native.Nat.{ℕ, zero, suc, _+_, _-_, _*_, _/_, _%_, _<_, _≤_, min}
+use Prim.Native.Nat.{ℕ, zero, suc, _+_, _-_, _*_, _/_, _%_, _<_, _≤_}
 use mathlib.Core.List.{List, [], _∷_, _++_, append-nil}
-use mathlib.Core.Path.{_≡_, refl, sym, ap, ap₂, _∙_}
+use mathlib.Core.Path.{_≡_, refl, sym, ap, _∙_}
 use native.Mathlib.Decide.{decLt}
 use native.Mathlib.Nat.{le-refl, zero-add, sub-zero, zero-sub, suc-sub-suc}
 use native.Mathlib.Numerals.{add-one}
 use native.Mathlib.Omega.{arith}
-use lib.ListN.{getD, set, take, drop, length, replicate, length-append, length-take, length-replicate, List·getD-append, drop-of-length-le}
-use lib.Seq.{getD-append-add, paste-suc, take-all, take-append-le, take-take, take-nil}
+use lib.ListN.{set, take, drop, length, replicate, length-append, length-take, List·getD-append, drop-of-length-le}
+use lib.Seq.{getD-append-add, paste-suc, take-all, take-append-le}
 use Rattle.word.specs.Table.{table}
 use Rattle.word.specs.Word.{toLe}
-use Rattle.word.proofs.Table.{length-table}
-use Rattle.blake2b.specs.Blake2b.{_!_, stateWords, maxOutput, fold, F, final, initial, bytes, blake2b}
+use Rattle.blake2b.specs.Blake2b.{_!_, maxOutput, fold, F, final, initial, bytes, blake2b}
 
 pub length-bytes : (h : List ℕ) → length (bytes h) ≡ 8 * length h
 length-bytes [] = refl
@@ -67,11 +66,7 @@ no-zeros b i n l e h =
     let z : maxOutput - n ≡ 0 = omega arith in
     rw (e, z, take-all maxOutput b (omega arith), take-all n b (omega arith))
 
--- ---- lengths of a hash
-pub length-F : (h m : List ℕ) (t : ℕ) (last : mathlib.Core.Bool.Bool) → length (bytes (F h m t last)) ≡ maxOutput
-unfolding F fold table
-length-F h m t last = refl
-
+-- ---- the length of a hash
 pub length-blake2b : (n : ℕ) (msg : List ℕ) → n ≤ maxOutput → length (blake2b n msg) ≡ n
 unfolding blake2b final F fold table
 length-blake2b n msg h = length-take n (bytes (final (initial n) msg)) ∙ omega arith

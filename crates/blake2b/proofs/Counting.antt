@@ -2,11 +2,11 @@
 use Prim.Native.Nat.{ℕ, zero, _+_, _*_, _/_, _%_, _^_, _<_, _≤_}
 use mathlib.Core.Bool.{Bool}
 use mathlib.Core.List.{List, [], _∷_, _++_}
-use mathlib.Core.Path.{_≡_, refl, sym, ap, _∙_}
+use mathlib.Core.Path.{_≡_, sym, ap, _∙_}
 use native.Mathlib.Nat.{add-comm, add-mul, add-mul-div-right, add-mul-mod-self-right, div-add-mod', mod-eq-of-lt, mod-lt}
 use native.Mathlib.Omega.{arith}
 use lib.Dec.{lit<}
-use lib.ListN.{getD, length}
+use lib.ListN.{length}
 use lib.Pow.{low as low-part, high as high-part}
 use Rattle.word.specs.Table.{table}
 use Rattle.word.proofs.Table.{table-self}

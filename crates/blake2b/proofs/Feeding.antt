@@ -1,12 +1,12 @@
 -- Taking bytes one by one, as the loop does. Assumes nothing.
-use Prim.Native.Nat.{ℕ, zero, suc, _+_, _*_, _/_, _%_, _^_, _<_, _≤_}
+use Prim.Native.Nat.{ℕ, _+_, _/_, _%_, _^_, _<_, _≤_}
 use mathlib.Core.Bool.{false}
-use mathlib.Core.List.{List, [], _∷_, _++_}
-use mathlib.Core.Path.{_≡_, refl, sym, ap, _∙_}
+use mathlib.Core.List.{List}
+use mathlib.Core.Path.{_≡_, sym, ap, _∙_}
 use native.Mathlib.Numerals.{add-one}
 use borrow.Author.Tests.{lt-ltb, le-ltb}
 use lib.Dec.{lit<}
-use lib.ListN.{getD, drop, length, replicate, drop-of-length-le}
+use lib.ListN.{drop, length, replicate, drop-of-length-le}
 use lib.Seq.{drop-cons}
 use Rattle.blake2b.specs.declared.State.{State}
 use Rattle.blake2b.specs.Blake2b.{_!_, blockBytes, F, words}

@@ -1,9 +1,9 @@
 -- The answers to an output's length, one law a case, and the front of a digest, which is the hash. Assumes nothing.
 use Prim.Native.Nat.{ℕ, _-_, _<_, _≤_}
-use mathlib.Core.List.{List, _++_}
-use mathlib.Core.Path.{_≡_, sym, ap, _∙_}
+use mathlib.Core.List.{List}
+use mathlib.Core.Path.{_≡_, ap, _∙_}
 use borrow.Author.Tests.{eq-eqb, ne-eqb, lt-ltb, le-ltb, eqb-false, ltb-false}
-use lib.ListN.{take, replicate}
+use lib.ListN.{take}
 use Rattle.answer.specs.Answers.{first, ifAccepted}
 use Rattle.answer.proofs.Rows.{passed}
 use Rattle.blake2b.specs.declared.State.{State}
@@ -12,6 +12,7 @@ use Rattle.blake2b.specs.Stream.{fresh, feedAll, ended, outputRows}
 use Rattle.blake2b.proofs.Bytes.{front, length-blake2b}
 use Rattle.blake2b.proofs.Streaming.{streamed}
 
+-- the rows that hold, case by case
 module _ (most n : ℕ) where
   pub none : n ≡ 0 → 11 ≡ first (outputRows most n)
   none h = rw (eq-eqb n 0 h)

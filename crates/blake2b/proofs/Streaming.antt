@@ -1,7 +1,7 @@
 -- The state after a message's bytes is the RFC's: `streamed`. However the message is cut, the state is the same: `cut`.
 -- `stateOf` says what the state holds after any message, for any h₀, and a byte more is shown to keep it so. Assumes nothing.
 use Prim.Native.Nat.{ℕ, zero, suc, _+_, _-_, _*_, _/_, _%_, _^_, _<_, _≤_}
-use mathlib.Core.Bool.{Bool, true, false}
+use mathlib.Core.Bool.{true, false}
 use mathlib.Core.List.{List, [], _∷_, _++_, append-assoc, append-nil}
 use mathlib.Core.Path.{_≡_, refl, sym, ap, _∙_}
 use native.Mathlib.Decide.{decLt}

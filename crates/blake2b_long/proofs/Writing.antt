@@ -4,7 +4,7 @@ use mathlib.Core.List.{List, [], _∷_, _++_, append-assoc, append-nil}
 use mathlib.Core.Path.{_≡_, refl, sym, ap, _∙_}
 use native.Mathlib.Nat.{min-eq-left, min-eq-right, le-refl, sub-zero}
 use native.Mathlib.Omega.{arith}
-use lib.ListN.{length, take, drop, replicate, drop-of-length-le}
+use lib.ListN.{length, take, replicate, drop-of-length-le}
 use lib.Seq.{paste, take-paste}
 use Rattle.word.specs.Word.{toLe}
 use Rattle.blake2b.specs.declared.State.{State}

@@ -3,8 +3,11 @@ use Prim.Native.Nat.{ℕ}
 use mathlib.Core.Path.{_≡_, sym, _∙_}
 use Rattle.answer.specs.declared.Answer.{Answer}
 use Rattle.answer.proofs.Number.{injective}
-use Rattle.params.specs.Promises.{CostsPromise, CheckPromise, SegmentPromise, LanePromise, BlocksPromise}
+use Rattle.params.specs.Promises.{FromNumbersPromise, CostsPromise, CheckPromise, SegmentPromise, LanePromise, BlocksPromise}
 use Rattle.params.specs.declared.Params.{Params}
+
+pub from-numbers-settled : {a v m t p c : ℕ} {r r′ : Params} → FromNumbersPromise a v m t p c r → FromNumbersPromise a v m t p c r′ → r ≡ r′
+from-numbers-settled p p′ = p .result ∙ sym (p′ .result)
 
 pub costs-settled : {p m t : ℕ} {r r′ : Answer} → CostsPromise p m t r → CostsPromise p m t r′ → r ≡ r′
 costs-settled p p′ = injective (p .answer ∙ sym (p′ .answer))

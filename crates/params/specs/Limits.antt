@@ -1,6 +1,6 @@
 -- Document 01, "Domain and sizes" and "Answers": the limits of the parameters, a row each, and the sizes.
 use Prim.Native.Nat.{ℕ, _*_, _/_}
-use mathlib.Core.Bool.{Bool, true, false, not, _||_}
+use mathlib.Core.Bool.{Bool, true, false, cond, not, _||_}
 use mathlib.Core.List.{List, [], _∷_, _++_}
 use lib.Dec.{ltb, eqb}
 use Rattle.answer.specs.Answers.{Row, _when_}
@@ -38,6 +38,21 @@ slices = 4
 -- the least tag
 abbrev pub minTag : ℕ
 minTag = 4
+
+-- where one number has to say it (the program, the C boundary), a configured length of 0 stands for none
+abbrev pub configuredOf : ℕ → Configured
+configuredOf n = cond (eqb n 0) Absent (Length n)
+
+abbrev pub fromNumbers : ℕ → ℕ → ℕ → ℕ → ℕ → ℕ → Params
+fromNumbers algorithm version memory passes lanes configured =
+    record {
+      algorithm = algorithm;
+      version = version;
+      memory = memory;
+      passes = passes;
+      lanes = lanes;
+      configured = configuredOf configured;
+    }
 
 -- n is one of a list
 abbrev pub among : ℕ → List ℕ → Bool

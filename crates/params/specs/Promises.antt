@@ -3,8 +3,11 @@ use Prim.Native.Nat.{ℕ}
 use mathlib.Core.Path.{_≡_}
 use Rattle.answer.specs.Answers.{number, first}
 use Rattle.answer.specs.declared.Answer.{Answer}
-use Rattle.params.specs.Limits.{costRows, rows, segment, laneLength, blocks}
+use Rattle.params.specs.Limits.{fromNumbers, costRows, rows, segment, laneLength, blocks}
 use Rattle.params.specs.declared.Params.{Params}
+
+pub record FromNumbersPromise (algorithm version memory passes lanes configured : ℕ) (r : Params) : Type 0 where
+  pub result : r ≡ fromNumbers algorithm version memory passes lanes configured
 
 pub record CostsPromise (p m t : ℕ) (r : Answer) : Type 0 where
   pub answer : number r ≡ first (costRows p m t)

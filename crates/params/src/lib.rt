@@ -1,11 +1,24 @@
 // Document 01's numbers: the parameters, their limits and the sizes that they give.
-ghost use Rattle.params.specs.Promises.{CostsPromise, CheckPromise, SegmentPromise, LanePromise, BlocksPromise};
+ghost use Rattle.params.specs.Promises.{CostsPromise, CheckPromise, SegmentPromise, LanePromise, BlocksPromise, FromNumbersPromise};
+ghost use mathlib.Core.Path.{_≡_};
+ghost use Rattle.params.specs.Limits.{configuredOf};
 use answer::Answer;
 
 // A configured tag length: absent, or a number.
 pub enum Configured {
     Absent,
     Length(u32),
+}
+
+// The configured length that one number stands for.
+fn configured_of(n: u32) -> Configured
+    ensures { λ r. ⌜ r ≡ configuredOf n ⌝ }
+{
+    if n == 0 {
+        Configured::Absent
+    } else {
+        Configured::Length(n)
+    }
 }
 
 pub struct Params {
@@ -48,6 +61,28 @@ impl Params {
 
     // The most bytes of a password, a salt, a secret and a tag.
     pub const MAX_LENGTH: usize = 0xffff_ffff;
+
+    // The parameters of six numbers, as the program and the C boundary have them: a configured length of 0 stands for none.
+    pub fn from_numbers(
+        algorithm: u32,
+        version: u32,
+        memory: u32,
+        passes: u32,
+        lanes: u32,
+        configured: u32,
+    ) -> Params
+        ensures { λ r. ⌜ FromNumbersPromise algorithm version memory passes lanes configured r ⌝ }
+    {
+        let configured = configured_of(configured);
+        Params {
+            algorithm,
+            version,
+            memory,
+            passes,
+            lanes,
+            configured,
+        }
+    }
 
     // The first of document 01's rows 3 to 7 that holds.
     pub fn check_costs(lanes: u32, memory: u32, passes: u32) -> Answer

@@ -1,13 +1,13 @@
 -- The order of RFC 9106, passes, slices, lanes, blocks, is one order of accepted steps that completes filling. Assumes nothing.
 use mathlib.Core.Path.{_≡_, refl, sym, ap, _∙_, subst}
-use mathlib.Core.Logic.{_≢_, _⊎_, inl, inr}
+use mathlib.Core.Logic.{_≢_, inl, inr}
 use mathlib.Core.Bool.{Bool, true, false}
 use mathlib.Core.List.{List, [], _∷_, _++_}
 use Prim.Native.Nat.{ℕ, zero, suc, _+_, _-_, _*_, _≤_, _<_}
 use native.Mathlib.Omega.{arith}
 use lib.Dec.{eqb, ltb}
 use lib.ListN.{length}
-use borrow.Author.Tests.{eqb-true, eqb-false, ltb-true, ltb-false, lt-ltb, le-ltb}
+use borrow.Author.Tests.{eqb-true, eqb-false, ltb-false, lt-ltb, le-ltb}
 use Rattle.answer.specs.Answers.{first}
 use Rattle.block.specs.Block.{blockWords}
 use Rattle.params.specs.Limits.{rows, slices, maxLanes, segment, blocks}
@@ -19,7 +19,7 @@ use Rattle.argon2.specs.Jobs.{any, position, unfinished, moved, settled, nextSl
 use Rattle.argon2.specs.Loop.{loop}
 use Rattle.argon2.specs.Rows.{outputRows}
 use Rattle.argon2.specs.declared.job.Job.{Job}
-use Rattle.argon2.proofs.Jobs.{Inside, Complete, Bounds, inside-bounds, unfinished-by, Ready, moved-same, moved-other, moved-stays, settled-unfinished, settled-finished, next-position, next-within, next-pass, first-later, step-stands}
+use Rattle.argon2.proofs.Jobs.{Inside, Bounds, inside-bounds, unfinished-by, moved-same, moved-other, moved-stays, settled-unfinished, settled-finished, next-position, next-within, next-pass, first-later, step-stands}
 use Rattle.argon2.proofs.Tests.{any-of-false}
 use Rattle.turns.specs.Play.{State, accepts, step, run}
 use Rattle.turns.proofs.Started.{Begin, begins-first, begins-second}

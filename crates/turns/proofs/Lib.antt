@@ -1,7 +1,15 @@
+pub mod Addresses
+pub mod Behind
 pub mod Canonical
+pub mod Cases
+pub mod Completion
 pub mod Confluence
+pub mod Forgotten
 pub mod Order
 pub mod Rank
+pub mod Referred
+pub mod Settled
 pub mod Started
 pub mod Steps
 pub mod Sums
+pub mod Tag

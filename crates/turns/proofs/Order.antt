@@ -4,15 +4,14 @@ use mathlib.Core.Path.{_≡_, sym, ap, _∙_, subst}
 use mathlib.Core.Logic.{_≢_}
 use mathlib.Core.Bool.{true}
 use mathlib.Core.List.{List}
-use Prim.Native.Nat.{ℕ, _*_, _≤_, _<_}
+use Prim.Native.Nat.{ℕ}
 use native.Mathlib.Omega.{arith}
-use lib.ListN.{length}
 use Rattle.params.proofs.Within.{two}
 use Rattle.argon2.specs.Filling.{fill}
 use Rattle.argon2.specs.Jobs.{position, moved, settled}
 use Rattle.argon2.specs.declared.job.Job.{Job}
 use Rattle.argon2.proofs.Commute.{fill-comm}
-use Rattle.argon2.proofs.Jobs.{Bounds, inside-bounds, unfinished-by, Ready, moved-other, moved-stays, moved-comm, settled-unfinished}
+use Rattle.argon2.proofs.Jobs.{Bounds, inside-bounds, unfinished-by, moved-other, moved-stays, moved-comm, settled-unfinished}
 use Rattle.turns.specs.Play.{State, accepts, step, run, accepted}
 use Rattle.turns.proofs.Confluence.{order-free}
 use Rattle.turns.proofs.Steps.{filled, accepted-step, refused-step, ReadyFor, accepted-ready, ready-accepts, filled-length}

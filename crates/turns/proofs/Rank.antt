@@ -1,6 +1,5 @@
 -- How far a lane is, what a step adds to that, and the accepted steps in all as those of the lanes. Assumes nothing.
 use mathlib.Core.Path.{_≡_, refl, sym, ap, _∙_, subst}
-use mathlib.Core.Logic.{_≢_, _⊎_, inl, inr}
 use mathlib.Core.Bool.{Bool, true, false, cond, _&&_}
 use mathlib.Core.List.{List, [], _∷_}
 use Prim.Native.Nat.{ℕ, suc, _+_, _*_, _≤_, _<_}
@@ -8,11 +7,11 @@ use native.Mathlib.Omega.{arith}
 use native.Mathlib.Nat.{mul-le-mul-right}
 use lib.Dec.{eqb, ltb}
 use borrow.Author.Tests.{eqb-true, eqb-false, ne-eqb, ltb-false}
-use Rattle.params.specs.Limits.{slices, segment, laneLength, blocks}
+use Rattle.params.specs.Limits.{slices, segment, laneLength}
 use Rattle.params.specs.declared.Params.{Params}
 use Rattle.argon2.specs.Jobs.{position, unfinished, moved, settled, nextSlice}
 use Rattle.argon2.specs.declared.job.Job.{Job}
-use Rattle.argon2.proofs.Jobs.{Inside, Complete, Bounds, inside-bounds, Ready, moved-same, moved-other, settled-unfinished, settled-finished, next-position, next-within, next-pass}
+use Rattle.argon2.proofs.Jobs.{Inside, Complete, Bounds, inside-bounds, moved-same, moved-other, settled-unfinished, settled-finished, next-position, next-within, next-pass}
 use Rattle.argon2.proofs.Tests.{any-false}
 use Rattle.turns.specs.Play.{State, accepts, step, run, accepted, acceptedSteps}
 use Rattle.turns.proofs.Steps.{filled, accepted-step, refused-step, ReadyFor, accepted-ready, step-params}
@@ -74,7 +73,7 @@ rank-moved j a l h la = go (eqb a l) refl
         omega arith
     go false t = omega (arith, moved-other j a l (λ e. eqb-false a l t (sym e)))
 
-rank-filled : (σ : State) (a l : ℕ) → ReadyFor σ a → l < σ .job .params .lanes → rank (filled σ a .job) l ≡ cond (eqb a l) 1 0 + rank (σ .job) l
+pub rank-filled : (σ : State) (a l : ℕ) → ReadyFor σ a → l < σ .job .params .lanes → rank (filled σ a .job) l ≡ cond (eqb a l) 1 0 + rank (σ .job) l
 unfolding moved
 rank-filled σ a l h k =
     rank-settled (moved (σ .job) a) l (h .inside .within) k (moved-high (σ .job) a l (h .inside) (h .lane) (h .under) k)

@@ -1,30 +1,30 @@
 -- An accepted start: what its answer says of the inputs, where its job stands, that it writes blocks 0 and 1 of every lane and no other
 -- word, and that a refused one changes nothing. Assumes nothing.
 use mathlib.Core.Path.{_≡_, refl, sym, ap, _∙_, subst}
-use mathlib.Core.Logic.{_≢_, _⊎_, inl, inr}
+use mathlib.Core.Logic.{_≢_, inl}
 use mathlib.Core.Bool.{Bool, true, false, cond, _||_, true≢false}
-use mathlib.Core.List.{List, [], _∷_, _++_}
-use Prim.Native.Nat.{ℕ, zero, suc, _+_, _-_, _*_, _/_, _≤_, _<_}
+use mathlib.Core.List.{List, _++_}
+use Prim.Native.Nat.{ℕ, zero, suc, _-_, _*_, _/_, _≤_, _<_}
 use native.Mathlib.Omega.{arith}
 use lib.Dec.{eqb, ltb}
 use lib.ListN.{length, getD, replicate, length-append, length-replicate}
-use borrow.Author.Tests.{eqb-true, eqb-false, eq-eqb, ne-eqb, ltb-true, ltb-false, le-ltb}
+use borrow.Author.Tests.{eqb-true, eqb-false, ne-eqb, ltb-true, ltb-false, le-ltb}
 use Rattle.answer.specs.Answers.{first, ifAccepted}
-use Rattle.answer.proofs.Rows.{Passed, passed, accepted, passed-front, passed-back}
 use Rattle.block.specs.Block.{blockWords}
-use Rattle.params.specs.Limits.{rows, among, slices, maxLanes, segment, blocks}
+use Rattle.params.specs.Limits.{rows, among, maxLanes, segment, blocks}
 use Rattle.params.specs.declared.Params.{Params}
 use Rattle.params.proofs.Within.{params-within, two}
 use Rattle.position.specs.Position.{firstBlock, index}
 use Rattle.argon2.specs.Calls.{started}
 use Rattle.argon2.specs.Initial.{initialHash, firstWords, startMemory}
-use Rattle.argon2.specs.Jobs.{position, unfinished, settled, nextSlice, startJob, zeroJob}
+use Rattle.argon2.specs.Jobs.{position, settled, nextSlice, startJob, zeroJob}
 use Rattle.argon2.specs.Memory.{block}
-use Rattle.argon2.specs.Rows.{startRows, extraRows, outputRows, inputRows}
+use Rattle.argon2.specs.Rows.{outputRows}
 use Rattle.argon2.specs.declared.job.Job.{Job}
-use Rattle.argon2.proofs.Jobs.{Inside, Complete, Bounds, unfinished-by, settled-unfinished, settled-finished, zeros-at, next-position, next-stands}
-use Rattle.argon2.proofs.StartMemory.{start-length, start-block, start-outside}
-use Rattle.argon2.proofs.Tests.{any-of-false, or-left, or-right}
+use Rattle.argon2.proofs.Jobs.{Bounds, unfinished-by, settled-unfinished, settled-finished, zeros-at, next-position, next-stands}
+use Rattle.argon2.proofs.StartMemory.{start-length, start-block}
+use Rattle.argon2.proofs.StartWrites.{Accepted, accepted-start, start-others}
+use Rattle.argon2.proofs.Tests.{any-of-false}
 use Rattle.turns.specs.Play.{State, begun, startWrites}
 use Rattle.turns.proofs.Rank.{rank, rank-settled}
 use Rattle.turns.proofs.Steps.{settled-params, StandsAt, Stands}
@@ -154,32 +154,13 @@ among-start (suc n) s b f l c hl hc e =
 
 -- ---- an accepted start
 
--- the sum of the inputs' facts
-pub record Accepted (P : Params) (tag : ℕ) (w : List ℕ) : Type 0 where
-  pub numbers : first (rows P) ≡ 0
-  pub allowed : first (outputRows (P .configured) tag) ≡ 0
-  pub fits : blockWords * blocks P ≤ length w
-
 module _ (P : Params) (tag : ℕ) (password salt secret ad w : List ℕ) where
+  -- what start answers, and what it leaves
   abbrev pub answered : ℕ
   answered = started P tag password salt secret ad w .answer
 
   abbrev pub before : State
   before = begun P tag password salt secret ad w
-
-  pub accepted-start : answered ≡ 0 → Accepted P tag w
-  unfolding started
-  accepted-start e =
-      let extra = extraRows (length secret) (length ad) in
-      let output = outputRows (P .configured) tag in
-      let input = inputRows P (length password) (length salt) (length w) in
-      let all : Passed (rows P ++ extra ++ output ++ input) = passed (rows P ++ extra ++ output ++ input) tt e in
-      let last : Passed input = passed-back (rows P ++ extra ++ output) input all in
-      record {
-        numbers = accepted (rows P) (passed-front (rows P) extra (passed-front (rows P ++ extra) output (passed-front (rows P ++ extra ++ output) input all)));
-        allowed = accepted output (passed-back (rows P ++ extra) output (passed-front (rows P ++ extra ++ output) input all));
-        fits = ltb-false (length w) (blockWords * blocks P) (last .1 .1 .1 .0);
-      }
 
   pub started-state : answered ≡ 0
       → before ≡ record { job = startJob P tag; memory = startMemory (initialHash P tag password salt secret ad) (P .lanes) (segment P) w }
@@ -206,7 +187,7 @@ module _ (P : Params) (tag : ℕ) (password salt secret ad w : List ℕ) where
 
   module _ (e : answered ≡ 0) where
     a : Accepted P tag w
-    a = accepted-start e
+    a = accepted-start P tag password salt secret ad w e
 
     pub started-job : before .job ≡ startJob P tag
     started-job = ap (λ (σ : State). σ .job) (started-state e)
@@ -243,27 +224,18 @@ module _ (P : Params) (tag : ℕ) (password salt secret ad w : List ℕ) where
     pub refused : answered ≢ 0 → (before .memory ≡ w) × (before .job ≡ zeroJob)
 
   pub start-writes : StartWrites
+  unfolding begun
   start-writes =
       record {
         blocks = λ e l b hl hb.
-            let a : Accepted P tag w = accepted-start e in
+            let a : Accepted P tag w = accepted-start P tag password salt secret ad w e in
             ap (block (index (segment P) l b)) (started-memory e)
             ∙ start-block (initialHash P tag password salt secret ad) (P .lanes) (segment P) (two (params-within P (a .numbers))) w (a .fits) l b hl hb;
-        others = λ i f. other i f (eqb answered 0) refl;
+        others = λ i f. start-others P tag password salt secret ad w i (among-start (P .lanes) (segment P) (i / blockWords) f);
         as-long = long (eqb answered 0) refl;
         refused = λ n. (ap (λ (σ : State). σ .memory) (refused-state n), ap (λ (σ : State). σ .job) (refused-state n));
       }
     where
-      other : (i : ℕ) → among (i / blockWords) (startWrites (P .lanes) (segment P)) ≡ false → (t : Bool) → eqb answered 0 ≡ t
-          → getD (before .memory) i 0 ≡ getD w i 0
-      other i f true t =
-          let e : answered ≡ 0 = eqb-true answered 0 t in
-          let a : Accepted P tag w = accepted-start e in
-          ap (λ (v : List ℕ). getD v i 0) (started-memory e)
-          ∙ start-outside (initialHash P tag password salt secret ad) (P .lanes) (segment P) (two (params-within P (a .numbers))) w (a .fits) i
-          (among-start (P .lanes) (segment P) (i / blockWords) f)
-      other i f false t = ap (λ (σ : State). getD (σ .memory) i 0) (refused-state (eqb-false answered 0 t))
-
       long : (t : Bool) → eqb answered 0 ≡ t → length (before .memory) ≡ length w
       long true t = started-length (eqb-true answered 0 t)
       long false t = ap (λ (σ : State). length (σ .memory)) (refused-state (eqb-false answered 0 t))

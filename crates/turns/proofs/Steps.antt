@@ -4,14 +4,13 @@ use mathlib.Core.Path.{_≡_, refl, sym, ap, _∙_, subst}
 use mathlib.Core.Logic.{_≢_, _⊎_, inl, inr}
 use mathlib.Core.Bool.{Bool, true, false, cond}
 use mathlib.Core.List.{List, [], _∷_}
-use Prim.Native.Nat.{ℕ, _+_, _*_, _/_, _≤_, _<_}
+use Prim.Native.Nat.{ℕ, _*_, _/_, _≤_}
 use native.Mathlib.Omega.{arith}
-use lib.Dec.{eqb}
 use lib.ListN.{length, getD}
 use borrow.Author.Tests.{eqb-true, eq-eqb}
 use Rattle.answer.specs.Answers.{first}
 use Rattle.block.specs.Block.{blockWords}
-use Rattle.params.specs.Limits.{segment, blocks}
+use Rattle.params.specs.Limits.{blocks}
 use Rattle.params.specs.declared.Params.{Params}
 use Rattle.params.proofs.Within.{two}
 use Rattle.argon2.specs.Calls.{stepped}
@@ -20,7 +19,7 @@ use Rattle.argon2.specs.Jobs.{position, complete, consistent, unfinished, moved
 use Rattle.argon2.specs.Memory.{block}
 use Rattle.argon2.specs.declared.job.Job.{Job}
 use Rattle.argon2.proofs.Filling.{fill-length, fill-block, fill-outside}
-use Rattle.argon2.proofs.Jobs.{Inside, Complete, Bounds, inside-bounds, stands-inside, stands-complete, inside-consistent, complete-consistent, Ready, ready, ready-accepted, step-stands}
+use Rattle.argon2.proofs.Jobs.{Inside, Complete, inside-bounds, stands-inside, stands-complete, inside-consistent, complete-consistent, Ready, ready, ready-accepted, step-stands}
 use Rattle.turns.specs.Play.{State, accepts, step, run, writes}
 
 -- ---- accepted, and refused

@@ -1,11 +1,12 @@
 -- Steps of a list of lanes, each on the job that the one before it handed back: document 01, "The job". All of it is made from `started` and
 -- `stepped`, which the promises of start and step name.
 use Prim.Native.Nat.{ℕ, zero, suc}
-use mathlib.Core.Bool.{Bool}
+use mathlib.Core.Bool.{Bool, cond}
 use mathlib.Core.List.{List, [], _∷_, _++_}
 use lib.Dec.{eqb}
 use Rattle.params.specs.Limits.{segment}
 use Rattle.params.specs.declared.Params.{Params}
+use Rattle.position.specs.Address.{addressed}
 use Rattle.position.specs.Position.{index}
 use Rattle.argon2.specs.Calls.{started, stepped}
 use Rattle.argon2.specs.Filling.{currentIndex, referenceIndex}
@@ -17,6 +18,9 @@ use Rattle.turns.specs.Turns.{turns, acceptedOf, acceptedAll, noted}
 pub record State : Type 0 where
   pub job : Job
   pub memory : List ℕ
+
+abbrev pub on : Job → List ℕ → State
+on j w = record { job = j; memory = w }
 
 -- what start leaves
 unfoldable pub begun : Params → ℕ → List ℕ → List ℕ → List ℕ → List ℕ → List ℕ → State
@@ -75,3 +79,8 @@ filling σ l = record { pass = σ .job .pass; slice = σ .job .slice; lane = l; 
 -- those of the accepted steps, in order
 abbrev pub trace : State → List ℕ → List Filled
 trace σ ls = noted State step accepts filling σ ls
+
+-- those of them in addressed segments
+abbrev pub addressedOnly : Params → List Filled → List Filled
+addressedOnly P [] = []
+addressedOnly P (f ∷ fs) = cond (addressed P (f .pass) (f .slice)) (f ∷ addressedOnly P fs) (addressedOnly P fs)

@@ -1,43 +1,30 @@
--- A part of a list, element by element. Assumes nothing.
-use mathlib.Core.Path.{_≡_, refl, sym, ap, _∙_}
-use mathlib.Core.List.{List, [], _∷_}
-use Prim.Native.Nat.{ℕ, zero, suc, _+_, _<_, _≤_}
-use native.Mathlib.Nat.{add-suc, add-zero}
+-- A part of a list, element by element, and the number that its bytes are. Assumes nothing.
+use mathlib.Core.Path.{_≡_}
+use mathlib.Core.List.{List}
+use Prim.Native.Nat.{ℕ, _+_, _<_, _≤_}
 use native.Mathlib.Omega.{arith}
-use lib.ListN.{length, take, drop, getD}
-use lib.Seq.{drop-cons}
+use lib.ListN.{length, take, drop, getD, length-take, length-drop}
+use lib.Seq.{getD-take, getD-drop}
 use borrow.Author.Tests.{le-leb, lt-leb}
-use Rattle.word.specs.Word.{fromLe, wordAt}
+use Rattle.word.specs.Table.{table}
+use Rattle.word.specs.Word.{fromLe, numberAt}
+use Rattle.word.proofs.Table.{is-table}
 
-module _ {ℓ} {A : Type ℓ} where
-  pub next : (s : List A) (at k n : ℕ) (d : A) → at + k < length s
-      → take (suc n) (drop (at + k) s) ≡ getD s (at + k) d ∷ take n (drop (at + suc k) s)
-  next s at k n d h = rw (drop-cons s (at + k) d h, add-suc at k)
+-- the n elements from a place on
+pub elements : (n : ℕ) (s : List ℕ) (at : ℕ) → at + n ≤ length s → take n (drop at s) ≡ table (λ k. getD s (at + k) 0) n
+elements n s at h =
+    is-table (λ k. getD s (at + k) 0) n (take n (drop at s)) (simp (length-take, length-drop) (omega arith))
+    (λ k b. rw (getD-take, getD-drop))
 
--- the eight elements from a place on
-pub eight : (s : List ℕ) (at : ℕ) → at + 8 ≤ length s
-    → take 8 (drop at s)
-    ≡ getD s at 0 ∷ getD s (at + 1) 0 ∷ getD s (at + 2) 0 ∷ getD s (at + 3) 0 ∷ getD s (at + 4) 0 ∷ getD s (at + 5) 0
-    ∷ getD s (at + 6) 0 ∷ getD s (at + 7) 0 ∷ []
-eight s at h =
-    ap (λ (i : ℕ). take 8 (drop i s)) (sym (add-zero at))
-    ∙ next s at 0 7 0 (omega arith)
-    ∙ rw (
-      add-zero at,
-      next s at 1 6 0 (omega arith),
-      next s at 2 5 0 (omega arith),
-      next s at 3 4 0 (omega arith),
-      next s at 4 3 0 (omega arith),
-      next s at 5 2 0 (omega arith),
-      next s at 6 1 0 (omega arith),
-      next s at 7 0 0 (omega arith),
-    )
+-- a number whose n bytes all stand in the list
+pub inside : (n : ℕ) (s : List ℕ) (at : ℕ) → at + n ≤ length s → numberAt n s at ≡ fromLe (take n (drop at s))
+unfolding numberAt
+inside n s at h = rw (le-leb (at + n) (length s) h)
 
--- a word whose eight bytes all stand in the list
-pub inside : (s : List ℕ) (at : ℕ) → at + 8 ≤ length s → wordAt s at ≡ fromLe (take 8 (drop at s))
-unfolding wordAt
-inside s at h = rw (le-leb (at + 8) (length s) h)
+pub outside : (n : ℕ) (s : List ℕ) (at : ℕ) → length s < at + n → numberAt n s at ≡ 0
+unfolding numberAt
+outside n s at h = rw (lt-leb (at + n) (length s) h)
 
-pub outside : (s : List ℕ) (at : ℕ) → length s < at + 8 → wordAt s at ≡ 0
-unfolding wordAt
-outside s at h = rw (lt-leb (at + 8) (length s) h)
+-- the bytes of such a number, one by one
+pub bytes-of : (n : ℕ) (s : List ℕ) (at : ℕ) → at + n ≤ length s → numberAt n s at ≡ fromLe (table (λ k. getD s (at + k) 0) n)
+bytes-of n s at h = rw (inside n s at h, elements n s at h)

@@ -10,7 +10,7 @@ rotate-settled p p′ = p .result ∙ sym (p′ .result)
 pub from-le-settled : {a b c d e f g h r r′ : ℕ} → FromLePromise a b c d e f g h r → FromLePromise a b c d e f g h r′ → r ≡ r′
 from-le-settled p p′ = p .result ∙ sym (p′ .result)
 
-pub load-settled : {s : List ℕ} {at r r′ : ℕ} → LoadPromise s at r → LoadPromise s at r′ → r ≡ r′
+pub load-settled : {n : ℕ} {s : List ℕ} {at r r′ : ℕ} → LoadPromise n s at r → LoadPromise n s at r′ → r ≡ r′
 load-settled p p′ = p .result ∙ sym (p′ .result)
 
 pub to-le-settled : {n x : ℕ} {r r′ : List ℕ} → ToLePromise n x r → ToLePromise n x r′ → r ≡ r′

@@ -14,9 +14,13 @@ abbrev pub fromLe : List ℕ → ℕ
 fromLe [] = 0
 fromLe (b ∷ bs) = b + 256 * fromLe bs
 
--- the word at the eight bytes of s from at on; 0 where s has fewer there
-unfoldable pub wordAt : List ℕ → ℕ → ℕ
-wordAt s at = cond (leb (at + 8) (length s)) (fromLe (take 8 (drop at s))) 0
+-- the number at the n bytes of s from at on; 0 where s has fewer there
+unfoldable pub numberAt : ℕ → List ℕ → ℕ → ℕ
+numberAt n s at = cond (leb (at + n) (length s)) (fromLe (take n (drop at s))) 0
+
+-- the word at the eight bytes of s from at on
+abbrev pub wordAt : List ℕ → ℕ → ℕ
+wordAt s at = numberAt 8 s at
 
 -- 2.4, the n lowest bytes of x, the lowest first
 abbrev pub toLe : ℕ → ℕ → List ℕ

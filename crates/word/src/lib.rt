@@ -49,7 +49,7 @@ pub fn from_le(a: u8, b: u8, c: u8, d: u8, e: u8, f: u8, g: u8, h: u8) -> u64
 
 // The word at the eight bytes of s from at on; 0 where s has fewer there.
 pub fn load(s: &[u8], at: usize) -> u64
-    ensures { λ r. ⌜ LoadPromise (now (s .entry)) at r ⌝ }
+    ensures { λ r. ⌜ LoadPromise 8 (now (s .entry)) at r ⌝ }
 {
     if s.len() < 8 {
         return 0;
@@ -67,6 +67,19 @@ pub fn load(s: &[u8], at: usize) -> u64
         s[at + 6],
         s[at + 7],
     )
+}
+
+// The number at the four bytes of s from at on; 0 where s has fewer there.
+pub fn load32(s: &[u8], at: usize) -> u32
+    ensures { λ r. ⌜ LoadPromise 4 (now (s .entry)) at r ⌝ }
+{
+    if s.len() < 4 {
+        return 0;
+    }
+    if s.len() - 4 < at {
+        return 0;
+    }
+    from_le(s[at], s[at + 1], s[at + 2], s[at + 3], 0, 0, 0, 0) as u32
 }
 
 // The eight bytes of x, the lowest first.

@@ -49,7 +49,16 @@ complete-requires c κs =
     let secret = length (a .secret .now) in
     let ad = length (a .ad .now) in
     let words = length (a .words .now) in
-    (fill-lent (a .params) pw salt secret ad words (accepted e), fill-countable (a .params) pw salt secret ad words (accepted e))
+    let counts = fill-countable (a .params) pw salt secret ad words (accepted e) in (
+      fill-lent (a .params) pw salt secret ad words (accepted e),
+      record {
+        of-tag = omega arith;
+        of-password = counts .of-password;
+        of-salt = counts .of-salt;
+        of-secret = counts .of-secret;
+        of-ad = counts .of-ad;
+      },
+    )
 
 returns-2 : tie.Need-returns-2
 unfolding memoryFilled

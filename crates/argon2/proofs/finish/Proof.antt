@@ -1,5 +1,5 @@
 -- `argon2::finish` meets its contract: refused, the output stays; accepted, the job is complete and its tag length fits. Assumes nothing.
-use Prim.Native.Nat.{ℕ, _≤_}
+use Prim.Native.Nat.{ℕ}
 use mathlib.Core.Path.{_≡_, sym, _∙_}
 use native.Mathlib.Omega.{arith}
 use lib.ListN.{length}
@@ -10,7 +10,7 @@ use Rattle.argon2.specs.Calls.{finished}
 use Rattle.argon2.specs.Jobs.{finishRows}
 use Rattle.argon2.proofs.Answered.{left-new, left-old}
 use Rattle.argon2.proofs.Inputs.{tag-some}
-use Rattle.argon2.proofs.Jobs.{Finishing, finishing}
+use Rattle.argon2.proofs.Jobs.{finishing}
 use Rattle.argon2.proofs.finish.Statement.{statement}
 use Rattle.argon2.proofs.finish.Tie as tie
 
@@ -29,7 +29,7 @@ unfolding finished
 returns c =
     let s = c .before .before .before .before .before in
     let a = s .args in
-    let refused : answer s ≡ 0 → ⊥ = λ z. c .if1 .taken (numbered (c .before) ∙ z) in
+    let refused : answer s ≡ 0 → ⊥ = λ z. omega (arith, numbered (c .before), c .if1 .taken, z) in
     record {
       answer = c .before .before .check-finish .ensures .0;
       output = sym (left-old (answer s) (tagOf (a .job .params) (length (a .out .now)) (a .words .now)) (a .out .now) refused);
@@ -43,7 +43,7 @@ tag-requires c κs =
     let some = tag-some (a .job .params) (a .job .tag) (f .complete .numbers) (f .complete .tag) in (
       record { accepted = f .complete .numbers; enough = f .fits },
       omega (arith, some, f .length),
-      e .before .before .check-finish .ensures .1 (sym (e .before .number .ensures .result) ∙ e .if1 .left),
+      e .before .before .check-finish .ensures .1 (e .before .before .check-finish .ensures .0 ∙ accepted e),
     )
 
 returns-2 : tie.Need-returns-2

@@ -1,4 +1,4 @@
--- `argon2::blocks::write_block` meets its contract: after i turns, i words of the block are pasted in. Assumes nothing.
+-- `argon2::blocks::write_block` meets its contract: after so many turns, so many words of the block are pasted in. Assumes nothing.
 use Prim.Native.Nat.{ℕ, _+_, _*_, _-_, _≤_}
 use mathlib.Core.List.{List, _++_}
 use mathlib.Core.Path.{_≡_, refl, sym, ap, _∙_}
@@ -13,12 +13,12 @@ use Rattle.argon2.proofs.blocks.write_block.Statement.{statement}
 use Rattle.argon2.proofs.blocks.write_block.Tie as tie
 
 abbrev Inv-loop : tie.InvT-loop
-Inv-loop words₀ b x first i₀ words i =
-    (i ≤ blockWords) × (first ≡ blockWords * b) × (length (x .words) ≡ blockWords) × (length words ≡ length words₀)
-    × (words ≡ paste words₀ (blockWords * b) (x .words) i)
+Inv-loop words₀ b x first at₀ words at =
+    (at ≤ blockWords) × (first ≡ blockWords * b) × (length (x .words) ≡ blockWords) × (length words ≡ length words₀)
+    × (words ≡ paste words₀ (blockWords * b) (x .words) at)
 
 abbrev μ-loop : tie.MeasureT-loop
-μ-loop words₀ b x first i₀ words i = blockWords - i
+μ-loop words₀ b x first at₀ words at = blockWords - at
 
 loop-holds : tie.Need-loop-holds Inv-loop μ-loop
 loop-holds c =
@@ -34,9 +34,9 @@ loop-again c =
       refl,
       l .inv .2,
       simp length-set (l .inv .3),
-      ap (λ (v : List ℕ). set v (blockWords * a .b + l .i) (getD (a .t3 .words) (l .i) 0)) (l .inv .4)
-          ∙ paste-suc w (blockWords * a .b) (a .t3 .words) (l .i) 0 (omega arith) (omega arith)
-          ∙ ap (λ (n : ℕ). paste w (blockWords * a .b) (a .t3 .words) n) (sym (add-one (l .i))),
+      ap (λ (v : List ℕ). set v (blockWords * a .b + l .at) (getD (a .t3 .words) (l .at) 0)) (l .inv .4)
+          ∙ paste-suc w (blockWords * a .b) (a .t3 .words) (l .at) 0 (omega arith) (omega arith)
+          ∙ ap (λ (n : ℕ). paste w (blockWords * a .b) (a .t3 .words) n) (sym (add-one (l .at))),
     )
 
 returns : tie.Need-returns Inv-loop μ-loop
@@ -45,7 +45,7 @@ returns c =
     let l = c .before .loop in
     let a = c .before .before .args in
     let w = a .words .now in
-    let e : l .i ≡ blockWords = omega arith in
+    let e : l .at ≡ blockWords = omega arith in
     l .inv .4
     ∙ ap (λ (n : ℕ). paste w (blockWords * a .b) (a .t3 .words) n) e
     ∙ ap (λ (v : List ℕ). take (blockWords * a .b) w ++ v ++ drop (blockWords * a .b + blockWords) w) (take-all blockWords (a .t3 .words) (omega arith))

@@ -1,14 +1,10 @@
 -- `argon2::checks::too_little` meets its contract. Assumes nothing.
-use Prim.Native.Nat.{ℕ, _*_}
-use mathlib.Core.Path.{ap}
-use lib.Dec.{ltb}
 use borrow.Author.Needs.{needs}
-use Rattle.block.specs.Block.{blockWords}
 use Rattle.argon2.proofs.checks.too_little.Statement.{statement}
 use Rattle.argon2.proofs.checks.too_little.Tie as tie
 
 returns : tie.Need-returns
-returns c = ap (λ (n : ℕ). ltb (c .before .args .words) (blockWords * n)) (c .block-count .ensures .result)
+returns c = rw (c .block-count .ensures .result)
 
 pub too-little-spec : {M : Type 1} → statement M
 too-little-spec = tie.close (tie.spec (λ c κs. search needs) (λ c. search needs) (λ c. search needs) returns)

@@ -2,9 +2,9 @@
 -- job has few lanes, so that its lane has a position. Assumes nothing.
 use Prim.Native.Nat.{_*_}
 use mathlib.Core.Bool.{true, false}
-use mathlib.Core.Path.{_≡_, sym, ap, _∙_}
+use mathlib.Core.Path.{_≡_, sym, _∙_}
 use native.Mathlib.Omega.{arith}
-use lib.Dec.{leb, ltb, eqb}
+use lib.Dec.{ltb}
 use borrow.Author.Needs.{needs}
 use borrow.Author.Tests.{not-true, not-false, le-leb, lt-leb, eq-eqb, ne-eqb}
 use Rattle.block.specs.Block.{blockWords}
@@ -50,7 +50,11 @@ returns-5 c =
     let f = c .before .before .before in
     let e = f .before .before .before in
     let d = e .before .before in
-    let same = sym (c .before .before .position .ensures) ∙ c .if5 .taken ∙ c .before .segment-length .ensures .result in
+    let j = d .before .before .before .before .before .args .self in
+    let l = d .before .before .before .before .before .args .lane .0 in
+    let at = c .before .before .position .ensures in
+    let end = c .before .segment-length .ensures .result in
+    let same : position j l ≡ segment (j .params) = omega (arith, at, end, c .if5 .taken) in
     rw (past17 (d .before .before), past16 d, past18 e, lt-leb _ _ (f .if4 .left), eq-eqb _ _ same)
 
 returns-6 : tie.Need-returns-6
@@ -67,7 +71,7 @@ returns-6 c =
       past16 d,
       past18 e,
       lt-leb _ _ (f .if4 .left),
-      ne-eqb (position j l) (segment (j .params)) (λ same. c .if5 .left (at ∙ same ∙ sym end)),
+      ne-eqb (position j l) (segment (j .params)) (λ same. omega (arith, at, end, c .if5 .left, same)),
     )
 
 pub check-step-spec : {M : Type 1} → statement M

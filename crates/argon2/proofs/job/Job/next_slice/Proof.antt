@@ -1,5 +1,4 @@
 -- `argon2::job::Job::next_slice` meets its contract: the test is the definition's. Assumes nothing.
-use mathlib.Core.Path.{sym}
 use borrow.Author.Needs.{needs}
 use borrow.Author.Tests.{lt-ltb, le-ltb}
 use Rattle.argon2.specs.Jobs.{nextSlice}

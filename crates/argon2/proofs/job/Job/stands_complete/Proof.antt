@@ -1,5 +1,4 @@
 -- `argon2::job::Job::stands_complete` meets its contract. Assumes nothing.
-use mathlib.Core.Path.{_∙_}
 use borrow.Author.Needs.{needs}
 use Rattle.argon2.proofs.Standing.{all-zero}
 use Rattle.argon2.proofs.job.Job.stands_complete.Statement.{statement}

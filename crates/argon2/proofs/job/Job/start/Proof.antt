@@ -8,7 +8,6 @@ use borrow.Author.Needs.{needs}
 use Rattle.params.specs.Limits.{maxLanes}
 use Rattle.params.proofs.Within.{params-within}
 use Rattle.argon2.specs.Jobs.{settled, startJob}
-use Rattle.argon2.specs.declared.job.Job.{Job}
 use Rattle.argon2.proofs.job.Job.start.Statement.{statement}
 use Rattle.argon2.proofs.job.Job.start.Tie as tie
 

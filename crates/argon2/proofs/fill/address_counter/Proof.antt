@@ -1,0 +1,11 @@
+-- `argon2::fill::address_counter` meets its contract: counters begin at 1. Assumes nothing.
+use native.Mathlib.Omega.{arith}
+use borrow.Author.Needs.{needs}
+use Rattle.argon2.proofs.fill.address_counter.Statement.{statement}
+use Rattle.argon2.proofs.fill.address_counter.Tie as tie
+
+returns : tie.Need-returns
+returns c = omega arith
+
+pub address-counter-spec : {M : Type 1} → statement M
+address-counter-spec = tie.close (tie.spec (λ c. search needs) (λ c. search needs) (λ c. search needs) returns)

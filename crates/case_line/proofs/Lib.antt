@@ -1,0 +1,5 @@
+pub mod Answering
+pub mod Longest
+pub mod Pushing
+pub mod Settled
+pub mod Spans

@@ -1,0 +1,4 @@
+pub mod Answers
+pub mod Cases
+pub mod Lines
+pub mod Promises
