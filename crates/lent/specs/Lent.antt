@@ -8,19 +8,23 @@ use Rattle.word.specs.Table.{table}
 use Rattle.blake2b.specs.Blake2b.{bytes}
 use Rattle.blake2b_long.specs.Long.{long}
 
--- splitmix64: its state after one step more, and after two products
+-- splitmix64: what a step adds to its state, and the factors of its output
 abbrev pub step : ℕ
 step = 0x9e3779b97f4a7c15
 
--- z ^ z >> n, times a factor, mod 2^64
-abbrev pub folded : ℕ → ℕ → ℕ → ℕ
-folded n factor z = bitXor z (z / 2 ^ n) * factor % 2 ^ 64
+abbrev pub firstFactor : ℕ
+firstFactor = 0xbf58476d1ce4e5b9
+
+abbrev pub secondFactor : ℕ
+secondFactor = 0x94d049bb133111eb
+
+-- z ^ z >> n
+abbrev pub shifted : ℕ → ℕ → ℕ
+shifted n z = bitXor z (z / 2 ^ n)
 
 -- its output at the state z
 unfoldable pub mixed : ℕ → ℕ
-mixed z =
-    let x = folded 27 0x94d049bb133111eb (folded 30 0xbf58476d1ce4e5b9 z) in
-    bitXor x (x / 2 ^ 31)
+mixed z = shifted 31 (shifted 27 (shifted 30 z * firstFactor % 2 ^ 64) * secondFactor % 2 ^ 64)
 
 -- SEED: place i holds 0 with seed 0, else output i from the state seed
 unfoldable pub drawn : ℕ → ℕ → ℕ
