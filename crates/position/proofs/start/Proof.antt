@@ -11,7 +11,7 @@ mul-pick c = omega (arith, slice-le (c .args .segment) (c .args .slice) (omega a
 
 returns : tie.Need-returns
 unfolding start
-returns c = cc
+returns c = c .pick .ensures
 
 pub start-spec : {M : Type 1} → statement M
 start-spec = tie.close (tie.spec (λ c. search needs) (λ c. search needs) mul-pick (λ c κs. search needs) returns)
