@@ -11,7 +11,8 @@ use Rattle.block.specs.Block.{blockWords}
 use Rattle.params.specs.Limits.{slices}
 use Rattle.position.specs.Position.{index}
 use Rattle.position.proofs.Referring.{same-lane, index-lt}
-use Rattle.argon2.specs.Initial.{blockOf, firstWords, startLane, startMemory}
+use Rattle.initial.specs.Initial.{blockOf, firstWords}
+use Rattle.argon2.specs.Start.{startLane, startMemory}
 use Rattle.argon2.specs.Memory.{block, put}
 use Rattle.argon2.proofs.Commute.{loop-last-zero}
 use Rattle.argon2.proofs.Memory.{length-put, block-put-same, block-put-other, put-outside}

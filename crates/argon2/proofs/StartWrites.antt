@@ -16,8 +16,9 @@ use Rattle.params.specs.declared.Params.{Params}
 use Rattle.params.proofs.Within.{params-within, two}
 use Rattle.position.specs.Position.{index}
 use Rattle.argon2.specs.Calls.{started}
-use Rattle.argon2.specs.Initial.{initialHash, startMemory}
-use Rattle.argon2.specs.Rows.{extraRows, outputRows, inputRows}
+use Rattle.initial.specs.Initial.{initialHash}
+use Rattle.argon2.specs.Start.{startMemory}
+use Rattle.checks.specs.Rows.{extraRows, outputRows, inputRows}
 use Rattle.argon2.proofs.StartMemory.{start-outside}
 
 -- parameters that pass rows 1 to 8, a tag length that they allow, and enough memory

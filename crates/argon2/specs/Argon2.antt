@@ -9,7 +9,8 @@ use Rattle.params.specs.Limits.{slices, segment, blocks}
 use Rattle.params.specs.declared.Params.{Params}
 use Rattle.position.specs.Position.{index}
 use Rattle.argon2.specs.Filling.{fillAll}
-use Rattle.argon2.specs.Initial.{initialHash, startMemory}
+use Rattle.initial.specs.Initial.{initialHash}
+use Rattle.argon2.specs.Start.{startMemory}
 use Rattle.argon2.specs.Memory.{block}
 
 -- the XOR of the last blocks of the first n lanes

@@ -7,10 +7,11 @@ use Rattle.params.specs.Limits.{segment}
 use Rattle.params.specs.declared.Params.{Params}
 use Rattle.argon2.specs.Argon2.{tagOf, filled}
 use Rattle.argon2.specs.Filling.{fill}
-use Rattle.argon2.specs.Initial.{initialHash, startMemory}
-use Rattle.argon2.specs.Jobs.{position, moved, settled, startJob, zeroJob, stepRows, finishRows}
-use Rattle.argon2.specs.Rows.{startRows, fillRows}
-use Rattle.argon2.specs.declared.job.Job.{Job}
+use Rattle.initial.specs.Initial.{initialHash}
+use Rattle.argon2.specs.Start.{startMemory}
+use Rattle.job.specs.Jobs.{position, moved, settled, startJob, zeroJob, stepRows, finishRows}
+use Rattle.checks.specs.Rows.{startRows, fillRows}
+use Rattle.job.specs.declared.Job.{Job}
 
 -- an answer's number, the job handed back, and the memory after
 pub record Outcome : Type 0 where

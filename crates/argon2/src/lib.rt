@@ -4,16 +4,14 @@ ghost use denote.Ref.{now};
 ghost use lib.ListN.{length};
 ghost use Rattle.params.specs.Limits.{segment};
 ghost use Rattle.argon2.specs.Argon2.{filled};
-ghost use Rattle.argon2.specs.Initial.{initialHash, startMemory};
+ghost use Rattle.initial.specs.Initial.{initialHash};
+ghost use Rattle.argon2.specs.Start.{startMemory};
 ghost use Rattle.argon2.specs.Inner.{Lent, Countable};
 ghost use Rattle.argon2.specs.Promises.{StartPromise, StepPromise, FinishPromise, HashPromise, FillMemoryPromise};
 
 mod blocks;
-mod bytes;
-mod checks;
 mod fill;
-mod initial;
-mod job;
+mod first;
 mod tag;
 
 use answer::Answer;
@@ -21,14 +19,18 @@ use checks::check_fill;
 use checks::check_start;
 use fill::fill_all;
 use fill::fill_block;
-use initial::first_blocks;
+use first::first_blocks;
 use initial::initial_hash;
 pub use job::Job;
-pub use job::Started;
 pub use job::Stepped;
 use params::Params;
 use position::LaneNumber;
 use tag::tag;
+
+pub struct Started {
+    pub answer: Answer,
+    pub job: Job,
+}
 
 // The blocks that every lane begins with: those of the initial hash.
 fn begin(
@@ -162,15 +164,15 @@ pub fn start(
 pub fn step(job: Job, words: &mut [u64], lane: LaneNumber) -> Stepped
     ensures { λ r. ⌜ StepPromise job (now (words .entry)) (lane .0) r (now (words .exit)) ⌝ }
 {
-    let answer = job.check_step(words.len(), lane);
+    let next = job.after(words.len(), lane);
+    let answer = next.answer;
     if answer.number() != 0 {
-        return Stepped { answer, job };
+        return next;
     }
     let params = job.params;
     let block = job.position(lane);
     fill_block(words, params, job.pass, job.slice, lane, block);
-    let next = job.moved(lane).settled();
-    Stepped { answer, job: next }
+    next
 }
 
 // Finish: the tag of a job that is complete fills out. Refused, out stays.

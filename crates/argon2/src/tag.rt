@@ -1,8 +1,8 @@
 // The tag (document 01, "Tag").
 use crate::blocks::read_block;
-use crate::bytes::bytes_of;
 use blake2b_long::blake2b_long;
 use block::Block;
+use initial::bytes_of;
 use params::Params;
 use position::BlockNumber;
 use position::LaneNumber;
@@ -12,7 +12,7 @@ ghost use lib.ListN.{length};
 ghost use Rattle.params.specs.Limits.{segment};
 ghost use Rattle.argon2.specs.Argon2.{lastBlocks, tagOf};
 ghost use Rattle.argon2.specs.Inner.{Lent};
-ghost use Rattle.argon2.specs.Rows.{maxLength};
+ghost use Rattle.checks.specs.Rows.{maxLength};
 
 // The XOR of every lane's last block.
 fn last_blocks(words: &[u64], params: Params) -> Block

@@ -19,9 +19,9 @@ use Rattle.position.proofs.AddressFree.{Alike}
 use Rattle.position.proofs.AddressFree.{address-free as reference-address-free}
 use Rattle.argon2.specs.Filling.{previousIndex}
 use Rattle.argon2.specs.Calls.{stepped}
-use Rattle.argon2.specs.Jobs.{position, complete, consistent, moved, settled, stepRows}
+use Rattle.job.specs.Jobs.{position, complete, consistent, moved, settled, stepRows}
 use Rattle.argon2.specs.Memory.{block}
-use Rattle.argon2.specs.declared.job.Job.{Job}
+use Rattle.job.specs.declared.Job.{Job}
 use Rattle.turns.specs.Play.{State, accepts, step, refers, filling, trace, addressedOnly, Filled}
 use Rattle.turns.proofs.Started.{answered, before, started-job, started-params, started-stands}
 use Rattle.turns.proofs.Steps.{step-params, step-length}

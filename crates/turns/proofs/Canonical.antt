@@ -15,12 +15,12 @@ use Rattle.params.specs.declared.Params.{Params}
 use Rattle.params.proofs.Within.{params-within}
 use Rattle.position.specs.Position.{firstBlock}
 use Rattle.argon2.specs.Filling.{fill, fillSegment, fillSlice, fillPass, fillAll}
-use Rattle.argon2.specs.Jobs.{any, position, unfinished, moved, settled, nextSlice, startJob}
+use Rattle.job.specs.Jobs.{any, position, unfinished, moved, settled, nextSlice, startJob}
 use Rattle.argon2.specs.Loop.{loop}
-use Rattle.argon2.specs.Rows.{outputRows}
-use Rattle.argon2.specs.declared.job.Job.{Job}
-use Rattle.argon2.proofs.Jobs.{Inside, Bounds, inside-bounds, unfinished-by, moved-same, moved-other, moved-stays, settled-unfinished, settled-finished, next-position, next-within, next-pass, first-later, step-stands}
-use Rattle.argon2.proofs.Tests.{any-of-false}
+use Rattle.checks.specs.Rows.{outputRows}
+use Rattle.job.specs.declared.Job.{Job}
+use Rattle.job.proofs.Jobs.{Inside, Bounds, inside-bounds, unfinished-by, moved-same, moved-other, moved-stays, settled-unfinished, settled-finished, next-position, next-within, next-pass, first-later, step-stands}
+use Rattle.job.proofs.Tests.{any-of-false}
 use Rattle.turns.specs.Play.{State, accepts, step, run}
 use Rattle.turns.proofs.Started.{Begin, begins-first, begins-second}
 use Rattle.turns.proofs.Steps.{filled, accepted-step, ReadyFor, ready-accepts, filled-length, StandsAt}

@@ -17,9 +17,9 @@ use Rattle.position.specs.Address.{addressBlock, addressedWord}
 use Rattle.position.proofs.Cases.{PositionCases}
 use Rattle.position.proofs.Cases.{cases as position-cases}
 use Rattle.argon2.specs.Calls.{started}
-use Rattle.argon2.specs.Initial.{hashInput}
-use Rattle.argon2.specs.Jobs.{complete}
-use Rattle.argon2.proofs.MemoryCost.{memory-hashed}
+use Rattle.initial.specs.Initial.{hashInput}
+use Rattle.job.specs.Jobs.{complete}
+use Rattle.initial.proofs.MemoryCost.{memory-hashed}
 use Rattle.turns.specs.Play.{run, acceptedSteps}
 use Rattle.turns.proofs.Completion.{count}
 use Rattle.turns.proofs.Started.{answered, before}

@@ -18,13 +18,14 @@ use Rattle.params.proofs.Within.{params-within, two}
 use Rattle.position.specs.Position.{column, index, previousColumn, referenceLane, referenceColumn}
 use Rattle.position.proofs.Referring.{ref-lane, ref-column}
 use Rattle.argon2.specs.Filling.{storedBlock}
-use Rattle.argon2.specs.Initial.{initialHash, startMemory}
-use Rattle.argon2.specs.Jobs.{position, complete, startJob}
+use Rattle.initial.specs.Initial.{initialHash}
+use Rattle.argon2.specs.Start.{startMemory}
+use Rattle.job.specs.Jobs.{position, complete, startJob}
 use Rattle.argon2.specs.Memory.{block}
-use Rattle.argon2.specs.Rows.{outputRows}
-use Rattle.argon2.specs.declared.job.Job.{Job}
+use Rattle.checks.specs.Rows.{outputRows}
+use Rattle.job.specs.declared.Job.{Job}
 use Rattle.argon2.proofs.Filling.{column-lt, previous-lt, fill-block}
-use Rattle.argon2.proofs.Jobs.{Bounds, inside-bounds, Ready}
+use Rattle.job.proofs.Jobs.{Bounds, inside-bounds, Ready}
 use Rattle.argon2.proofs.StartMemory.{start-length, start-block}
 use Rattle.argon2.proofs.StartWrites.{Accepted, accepted-start}
 use Rattle.argon2.proofs.Stored.{same-stored, fill-other}

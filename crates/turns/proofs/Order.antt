@@ -8,10 +8,10 @@ use Prim.Native.Nat.{ℕ}
 use native.Mathlib.Omega.{arith}
 use Rattle.params.proofs.Within.{two}
 use Rattle.argon2.specs.Filling.{fill}
-use Rattle.argon2.specs.Jobs.{position, moved, settled}
-use Rattle.argon2.specs.declared.job.Job.{Job}
+use Rattle.job.specs.Jobs.{position, moved, settled}
+use Rattle.job.specs.declared.Job.{Job}
 use Rattle.argon2.proofs.Commute.{fill-comm}
-use Rattle.argon2.proofs.Jobs.{Bounds, inside-bounds, unfinished-by, moved-other, moved-stays, moved-comm, settled-unfinished}
+use Rattle.job.proofs.Jobs.{Bounds, inside-bounds, unfinished-by, moved-other, moved-stays, moved-comm, settled-unfinished}
 use Rattle.turns.specs.Play.{State, accepts, step, run, accepted}
 use Rattle.turns.proofs.Confluence.{order-free}
 use Rattle.turns.proofs.Steps.{filled, accepted-step, refused-step, ReadyFor, accepted-ready, ready-accepts, filled-length}

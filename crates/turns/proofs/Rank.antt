@@ -9,10 +9,10 @@ use lib.Dec.{eqb, ltb}
 use borrow.Author.Tests.{eqb-true, eqb-false, ne-eqb, ltb-false}
 use Rattle.params.specs.Limits.{slices, segment, laneLength}
 use Rattle.params.specs.declared.Params.{Params}
-use Rattle.argon2.specs.Jobs.{position, unfinished, moved, settled, nextSlice}
-use Rattle.argon2.specs.declared.job.Job.{Job}
-use Rattle.argon2.proofs.Jobs.{Inside, Complete, Bounds, inside-bounds, moved-same, moved-other, settled-unfinished, settled-finished, next-position, next-within, next-pass}
-use Rattle.argon2.proofs.Tests.{any-false}
+use Rattle.job.specs.Jobs.{position, unfinished, moved, settled, nextSlice}
+use Rattle.job.specs.declared.Job.{Job}
+use Rattle.job.proofs.Jobs.{Inside, Complete, Bounds, inside-bounds, moved-same, moved-other, settled-unfinished, settled-finished, next-position, next-within, next-pass}
+use Rattle.job.proofs.Tests.{any-false}
 use Rattle.turns.specs.Play.{State, accepts, step, run, accepted, acceptedSteps}
 use Rattle.turns.proofs.Steps.{filled, accepted-step, refused-step, ReadyFor, accepted-ready, step-params}
 use Rattle.turns.proofs.Sums.{sum, sum-plus, sum-const, sum-point}

@@ -15,11 +15,11 @@ use Rattle.params.proofs.Within.{two}
 use Rattle.position.specs.Position.{column, index, previousColumn, referenceLane, referenceColumn}
 use Rattle.position.proofs.Referring.{ref-lane, ref-column, ref-not-current, ref-not-previous, ref-not-beside, same-lane}
 use Rattle.argon2.specs.Filling.{previousIndex, wordFor}
-use Rattle.argon2.specs.Jobs.{position}
-use Rattle.argon2.specs.declared.job.Job.{Job}
+use Rattle.job.specs.Jobs.{position}
+use Rattle.job.specs.declared.Job.{Job}
 use Rattle.argon2.proofs.Filling.{previous-lt}
-use Rattle.argon2.proofs.Jobs.{Bounds, inside-bounds}
-use Rattle.argon2.proofs.Tests.{or-left, or-right, or-second}
+use Rattle.job.proofs.Jobs.{Bounds, inside-bounds}
+use Rattle.job.proofs.Tests.{or-left, or-right, or-second}
 use Rattle.turns.specs.Play.{State, accepts, step, run, writes, refers, startWrites, written}
 use Rattle.turns.specs.Turns.{noted}
 use Rattle.turns.proofs.Behind.{next-is-written, reference-behind}

@@ -16,15 +16,16 @@ use Rattle.params.specs.declared.Params.{Params}
 use Rattle.params.proofs.Within.{params-within, two}
 use Rattle.position.specs.Position.{firstBlock, index}
 use Rattle.argon2.specs.Calls.{started}
-use Rattle.argon2.specs.Initial.{initialHash, firstWords, startMemory}
-use Rattle.argon2.specs.Jobs.{position, settled, nextSlice, startJob, zeroJob}
+use Rattle.initial.specs.Initial.{initialHash, firstWords}
+use Rattle.argon2.specs.Start.{startMemory}
+use Rattle.job.specs.Jobs.{position, settled, nextSlice, startJob, zeroJob}
 use Rattle.argon2.specs.Memory.{block}
-use Rattle.argon2.specs.Rows.{outputRows}
-use Rattle.argon2.specs.declared.job.Job.{Job}
-use Rattle.argon2.proofs.Jobs.{Bounds, unfinished-by, settled-unfinished, settled-finished, zeros-at, next-position, next-stands}
+use Rattle.checks.specs.Rows.{outputRows}
+use Rattle.job.specs.declared.Job.{Job}
+use Rattle.job.proofs.Jobs.{Bounds, unfinished-by, settled-unfinished, settled-finished, zeros-at, next-position, next-stands}
 use Rattle.argon2.proofs.StartMemory.{start-length, start-block}
 use Rattle.argon2.proofs.StartWrites.{Accepted, accepted-start, start-others}
-use Rattle.argon2.proofs.Tests.{any-of-false}
+use Rattle.job.proofs.Tests.{any-of-false}
 use Rattle.turns.specs.Play.{State, begun, startWrites}
 use Rattle.turns.proofs.Rank.{rank, rank-settled}
 use Rattle.turns.proofs.Steps.{settled-params, StandsAt, Stands}

@@ -15,11 +15,11 @@ use Rattle.params.specs.declared.Params.{Params}
 use Rattle.params.proofs.Within.{two}
 use Rattle.argon2.specs.Calls.{stepped}
 use Rattle.argon2.specs.Filling.{fill, storedBlock}
-use Rattle.argon2.specs.Jobs.{position, complete, consistent, unfinished, moved, settled, nextSlice, stepRows}
+use Rattle.job.specs.Jobs.{position, complete, consistent, unfinished, moved, settled, nextSlice, stepRows}
 use Rattle.argon2.specs.Memory.{block}
-use Rattle.argon2.specs.declared.job.Job.{Job}
+use Rattle.job.specs.declared.Job.{Job}
 use Rattle.argon2.proofs.Filling.{fill-length, fill-block, fill-outside}
-use Rattle.argon2.proofs.Jobs.{Inside, Complete, inside-bounds, stands-inside, stands-complete, inside-consistent, complete-consistent, Ready, ready, ready-accepted, step-stands}
+use Rattle.job.proofs.Jobs.{Inside, Complete, inside-bounds, stands-inside, stands-complete, inside-consistent, complete-consistent, Ready, ready, ready-accepted, step-stands}
 use Rattle.turns.specs.Play.{State, accepts, step, run, writes}
 
 -- ---- accepted, and refused

@@ -20,12 +20,12 @@ use Rattle.position.proofs.Referring.{index-lt}
 use Rattle.argon2.specs.Argon2.{lastBlocks, tagOf, filled, argon2}
 use Rattle.argon2.specs.Calls.{Result, started, finished, hashed}
 use Rattle.argon2.specs.Filling.{fillAll}
-use Rattle.argon2.specs.Initial.{initialHash}
-use Rattle.argon2.specs.Jobs.{complete, unfinished, moved, settled, nextSlice, startJob}
+use Rattle.initial.specs.Initial.{initialHash}
+use Rattle.job.specs.Jobs.{complete, unfinished, moved, settled, nextSlice, startJob}
 use Rattle.argon2.specs.Memory.{block}
-use Rattle.argon2.specs.Rows.{outputRows}
-use Rattle.argon2.specs.declared.job.Job.{Job}
-use Rattle.argon2.proofs.Jobs.{Finishing, finishing-accepted}
+use Rattle.checks.specs.Rows.{outputRows}
+use Rattle.job.specs.declared.Job.{Job}
+use Rattle.job.proofs.Jobs.{Finishing, finishing-accepted}
 use Rattle.argon2.proofs.StartMemory.{start-length}
 use Rattle.argon2.proofs.StartWrites.{Accepted, accepted-start}
 use Rattle.turns.specs.Play.{State, step, run}

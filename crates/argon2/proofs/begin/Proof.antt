@@ -4,7 +4,7 @@ use mathlib.Core.Path.{ap, _∙_}
 use Prim.Native.Nat.{ℕ}
 use borrow.Author.Needs.{needs}
 use Rattle.params.specs.Limits.{segment}
-use Rattle.argon2.specs.Initial.{startMemory}
+use Rattle.argon2.specs.Start.{startMemory}
 use Rattle.argon2.proofs.begin.Statement.{statement}
 use Rattle.argon2.proofs.begin.Tie as tie
 

@@ -7,10 +7,10 @@ use borrow.Author.Needs.{needs}
 use Rattle.answer.specs.Answers.{first}
 use Rattle.argon2.specs.Argon2.{tagOf}
 use Rattle.argon2.specs.Calls.{finished}
-use Rattle.argon2.specs.Jobs.{finishRows}
-use Rattle.argon2.proofs.Answered.{left-new, left-old}
+use Rattle.job.specs.Jobs.{finishRows}
+use Rattle.checks.proofs.Answered.{left-new, left-old}
 use Rattle.argon2.proofs.Inputs.{tag-some}
-use Rattle.argon2.proofs.Jobs.{finishing}
+use Rattle.job.proofs.Jobs.{finishing}
 use Rattle.argon2.proofs.finish.Statement.{statement}
 use Rattle.argon2.proofs.finish.Tie as tie
 

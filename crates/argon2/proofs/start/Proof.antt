@@ -7,13 +7,14 @@ use native.Mathlib.Omega.{arith}
 use lib.ListN.{length}
 use borrow.Author.Needs.{needs}
 use Rattle.answer.specs.Answers.{first}
-use Rattle.params.specs.Limits.{segment}
+use Rattle.params.specs.Limits.{rows, segment}
 use Rattle.argon2.specs.Calls.{started}
 use Rattle.argon2.specs.Inner.{Lent, Countable}
-use Rattle.argon2.specs.Initial.{initialHash, startMemory}
-use Rattle.argon2.specs.Jobs.{startJob, zeroJob}
-use Rattle.argon2.specs.Rows.{startRows}
-use Rattle.argon2.proofs.Answered.{left-new, left-old}
+use Rattle.initial.specs.Initial.{initialHash}
+use Rattle.argon2.specs.Start.{startMemory}
+use Rattle.job.specs.Jobs.{startJob, zeroJob}
+use Rattle.checks.specs.Rows.{startRows}
+use Rattle.checks.proofs.Answered.{left-new, left-old}
 use Rattle.argon2.proofs.Inputs.{start-lent, start-countable}
 use Rattle.argon2.proofs.start.Statement.{statement}
 use Rattle.argon2.proofs.start.Tie as tie
@@ -69,7 +70,10 @@ returns-2 c =
     let a = s .args in
     record {
       answer = e .before .before .check-start .ensures .0;
-      job = c .start .ensures ∙ sym (left-new (answer s) (startJob (a .params) (a .tag)) zeroJob (accepted e));
+      job =
+          c .start .ensures
+          ∙ left-new (first (rows (a .params))) (startJob (a .params) (a .tag)) zeroJob (asked e .0 .accepted)
+          ∙ sym (left-new (answer s) (startJob (a .params) (a .tag)) zeroJob (accepted e));
       memory = _∙_ {b = memory s} (search needs) (sym (left-new (answer s) (memory s) (a .words .now) (accepted e)));
     }
 
@@ -82,6 +86,6 @@ start-spec =
     (λ c κs. search needs)
     returns
     (λ c κs. asked (c .before))
-    (λ c κs. asked (c .before .before .before .before) .0 .accepted)
+    (λ c κs. search needs)
     (λ c. search needs)
     returns-2)

@@ -1,0 +1,20 @@
+-- `initial::first_block_of` meets its contract: the variable-length hash of the input, as words. Assumes nothing.
+use mathlib.Core.Path.{ap, _∙_}
+use borrow.Author.Needs.{needs}
+use Rattle.blake2b_long.specs.Long.{long}
+use Rattle.block.specs.Block.{blockBytes}
+use Rattle.initial.specs.Initial.{blockOf, firstWords}
+use Rattle.initial.proofs.first_block_of.Statement.{statement}
+use Rattle.initial.proofs.first_block_of.Tie as tie
+
+returns : tie.Need-returns
+unfolding firstWords
+returns c =
+    let long-call = c .before .before in
+    c .block-of .ensures
+    ∙ ap blockOf (long-call .blake2b-long .ensures .output ∙ ap (long blockBytes) (long-call .before .before .before .first-input .ensures))
+
+pub first-block-of-spec : {M : Type 1} → statement M
+first-block-of-spec =
+    tie.close
+    (tie.spec (λ c κs. search needs) (λ c. search needs) (λ c. search needs) (λ c κs. search needs) (λ c κs. search needs) returns)

@@ -1,0 +1,115 @@
+// The initial hash (RFC 9106, 3.2), and the words of the blocks that each lane begins with.
+mod bytes;
+
+use blake2b::State;
+use blake2b_long::blake2b_long;
+use block::Block;
+use bytes::block_of;
+pub use bytes::bytes_of;
+use bytes::lay;
+use params::Params;
+use position::BlockNumber;
+use position::LaneNumber;
+use word::to_le32;
+ghost use mathlib.Core.List.{_++_};
+ghost use mathlib.Core.Path.{_≡_};
+ghost use Rattle.blake2b.specs.Stream.{feedAll};
+ghost use Rattle.initial.specs.Initial.{le32, counted, header, initialHash, firstWords};
+
+// The bytes of a number, and of what a first block is hashed from.
+const NUMBER: usize = 4;
+
+// The numbers of 4 bytes.
+const COUNTS: usize = 0x1_0000_0000;
+
+const FIRST_INPUT: usize = State::MAX_OUTPUT + 2 * NUMBER;
+
+// The state after a number, 4 bytes little-endian.
+fn feed_number(state: State, n: u32) -> State
+    ensures { λ r. ⌜ r ≡ feedAll state (le32 n) ⌝ }
+{
+    let bytes = to_le32(n);
+    state.feed(&bytes)
+}
+
+// The state after a count, of which 4 bytes are kept.
+fn feed_count(state: State, n: usize) -> State
+    ensures { λ r. ⌜ r ≡ feedAll state (le32 n) ⌝ }
+{
+    feed_number(state, (n % COUNTS) as u32)
+}
+
+// The state after the count of some bytes, and the bytes.
+fn feed_counted(state: State, bytes: &[u8]) -> State
+    ensures { λ r. ⌜ r ≡ feedAll state (counted (now (bytes .entry))) ⌝ }
+{
+    let s = feed_count(state, bytes.len());
+    s.feed(bytes)
+}
+
+// The state after the numbers: lanes, tag length, memory cost, passes, version, algorithm.
+fn feed_header(state: State, params: Params, tag: usize) -> State
+    ensures { λ r. ⌜ r ≡ feedAll state (header params tag) ⌝ }
+{
+    let memory = params.memory;
+    let s = feed_number(state, params.lanes);
+    let s = feed_count(s, tag);
+    let s = feed_number(s, memory);
+    let s = feed_number(s, params.passes);
+    let s = feed_number(s, params.version);
+    feed_number(s, params.algorithm)
+}
+
+// The initial hash: the numbers, then count and bytes of each input.
+pub fn initial_hash(
+    params: Params,
+    tag: usize,
+    password: &[u8],
+    salt: &[u8],
+    secret: &[u8],
+    ad: &[u8],
+) -> [u8; State::MAX_OUTPUT]
+    ensures { λ r. ⌜ r
+        ≡ initialHash
+        params
+        tag
+        (now (password .entry))
+        (now (salt .entry))
+        (now (secret .entry))
+        (now (ad .entry)) ⌝ }
+{
+    let s = State::begin(State::MAX_OUTPUT);
+    let s = feed_header(s, params, tag);
+    let s = feed_counted(s, password);
+    let s = feed_counted(s, salt);
+    let s = feed_counted(s, secret);
+    let s = feed_counted(s, ad);
+    s.end()
+}
+
+// What a first block is hashed from: the initial hash, the block's number and the lane's.
+fn first_input(
+    h: [u8; State::MAX_OUTPUT],
+    lane: LaneNumber,
+    block: BlockNumber,
+) -> [u8; FIRST_INPUT]
+    ensures { λ r. ⌜ r ≡ h ++ le32 (block .0) ++ le32 (lane .0) ⌝ }
+{
+    let mut input = [0; FIRST_INPUT];
+    let of_block = to_le32(block.0);
+    let of_lane = to_le32(lane.0);
+    lay(&mut input, 0, &h);
+    lay(&mut input, State::MAX_OUTPUT, &of_block);
+    lay(&mut input, State::MAX_OUTPUT + NUMBER, &of_lane);
+    input
+}
+
+// A first block of a lane: the variable-length hash of that, as words.
+pub fn first_block_of(h: [u8; State::MAX_OUTPUT], lane: LaneNumber, block: BlockNumber) -> Block
+    ensures { λ r. ⌜ r .words ≡ firstWords h (lane .0) (block .0) ⌝ }
+{
+    let input = first_input(h, lane, block);
+    let mut bytes = [0; Block::SIZE];
+    blake2b_long(&input, &mut bytes);
+    block_of(bytes)
+}

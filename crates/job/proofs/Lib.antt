@@ -1,0 +1,4 @@
+pub mod Jobs
+pub mod Settled
+pub mod Standing
+pub mod Tests
