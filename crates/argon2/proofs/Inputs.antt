@@ -14,7 +14,8 @@ use Rattle.params.specs.declared.Configured.{Configured}
 use Rattle.params.specs.declared.Configured.the-variants.{Absent, Length}
 use Rattle.params.specs.declared.Params.{Params}
 use Rattle.argon2.specs.Inner.{Lent, Countable}
-use Rattle.checks.specs.Rows.{maxLength, maxData, leastTag, outputRows, extraRows, inputRows, startRows, fillRows}
+use Rattle.checks.specs.Rows.{maxData, leastTag, outputRows, extraRows, inputRows, startRows, fillRows}
+use Rattle.word.specs.Word.{maxLength}
 
 -- a length that rows 8 and 11 accept is not 0
 some-bytes : (g : Configured) (n : ℕ) → underMinTag g ≡ false → ltb n (leastTag g) ≡ false → 1 ≤ n

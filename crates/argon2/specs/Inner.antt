@@ -11,7 +11,7 @@ use Rattle.params.specs.declared.Params.{Params}
 use Rattle.position.specs.Position.{firstBlock}
 use Rattle.argon2.specs.Filling.{overwrites}
 use Rattle.argon2.specs.Memory.{block, put}
-use Rattle.checks.specs.Rows.{maxLength}
+use Rattle.word.specs.Word.{maxLength}
 
 -- "Domain and sizes": a memory of so many words has block b
 abbrev pub Has : ℕ → ℕ → Type 0

@@ -12,7 +12,7 @@ ghost use lib.ListN.{length};
 ghost use Rattle.params.specs.Limits.{segment};
 ghost use Rattle.argon2.specs.Argon2.{lastBlocks, tagOf};
 ghost use Rattle.argon2.specs.Inner.{Lent};
-ghost use Rattle.checks.specs.Rows.{maxLength};
+ghost use Rattle.word.specs.Word.{maxLength};
 
 // The XOR of every lane's last block.
 fn last_blocks(words: &[u64], params: Params) -> Block

@@ -1,17 +1,14 @@
 -- Document 01, "Answers": the rows of the calls. Lengths are numbers of bytes, or of words for the memory.
-use Prim.Native.Nat.{ℕ, _*_, _-_, _^_}
+use Prim.Native.Nat.{ℕ, _*_}
 use mathlib.Core.List.{List, [], _∷_, _++_}
 use lib.Dec.{ltb, eqb}
-use Rattle.answer.specs.Answers.{Row, _when_}
+use Rattle.answer.specs.Answers.{Row, _when_, lengthRows}
 use Rattle.block.specs.Block.{blockWords}
 use Rattle.params.specs.Limits.{rows, blocks, minTag}
 use Rattle.params.specs.declared.Configured.{Configured}
 use Rattle.params.specs.declared.Configured.the-variants.{Absent, Length}
 use Rattle.params.specs.declared.Params.{Params}
-
--- the most bytes of a password, a salt, a secret and a tag
-abbrev pub maxLength : ℕ
-maxLength = 2 ^ 32 - 1
+use Rattle.word.specs.Word.{maxLength}
 
 -- the most associated data, and the least salt
 abbrev pub maxData : ℕ
@@ -37,14 +34,6 @@ adTooLong ad = 9 when ltb maxData ad
 abbrev pub secretTooLong : ℕ → Row
 secretTooLong secret = 10 when ltb maxLength secret
 
--- 11: OutputTooShort
-abbrev pub outputTooShort : ℕ → ℕ → Row
-outputTooShort least out = 11 when ltb out least
-
--- 12: OutputTooLong
-abbrev pub outputTooLong : ℕ → ℕ → Row
-outputTooLong most out = 12 when ltb most out
-
 -- 13: PwdTooLong
 abbrev pub pwdTooLong : ℕ → Row
 pwdTooLong password = 13 when ltb maxLength password
@@ -63,7 +52,7 @@ memoryTooLittle P words = 16 when ltb words (blockWords * blocks P)
 
 -- 11 and 12
 abbrev pub outputRows : Configured → ℕ → List Row
-outputRows configured out = outputTooShort (leastTag configured) out ∷ outputTooLong (mostTag configured) out ∷ []
+outputRows configured out = lengthRows (leastTag configured) (mostTag configured) out
 
 -- 9 and 10
 abbrev pub extraRows : ℕ → ℕ → List Row

@@ -1,16 +1,18 @@
 // Document 01's rows on the inputs of a call, in its order. Lengths are numbers of bytes, or of words for the memory.
 ghost use lib.Dec.{ltb};
-ghost use mathlib.Core.List.{[], _∷_};
 ghost use mathlib.Core.Path.{_≡_};
 ghost use Prim.Native.Nat.{_*_, _≤_};
 ghost use Rattle.answer.specs.Answers.{number, first, ifAccepted};
 ghost use Rattle.block.specs.Block.{blockWords};
 ghost use Rattle.params.specs.Limits.{blocks};
-ghost use Rattle.checks.specs.Rows.{maxLength, outputTooShort, outputTooLong, outputRows, extraRows, inputRows, startRows, fillRows};
+ghost use Rattle.word.specs.Word.{maxLength};
+ghost use Rattle.checks.specs.Rows.{outputRows, extraRows, inputRows, startRows, fillRows};
 use answer::Answer;
+use answer::check_length;
 use block::Block;
 use params::Configured;
 use params::Params;
+use word::MAX_LENGTH;
 
 // The first of two answers, unless it accepts.
 fn first_of(a: Answer, b: Answer) -> Answer
@@ -26,21 +28,8 @@ fn check_extra(secret: usize, ad: usize) -> Answer
     if Params::MAX_DATA < ad {
         return Answer::AdTooLong;
     }
-    if Params::MAX_LENGTH < secret {
+    if MAX_LENGTH < secret {
         return Answer::SecretTooLong;
-    }
-    Answer::Accepted
-}
-
-// Rows 11 and 12, for an output of n bytes that may have from least to most.
-pub fn check_length(least: usize, most: usize, n: usize) -> Answer
-    ensures { λ r. ⌜ number r ≡ first (outputTooShort least n ∷ outputTooLong most n ∷ []) ⌝ }
-{
-    if n < least {
-        return Answer::OutputTooShort;
-    }
-    if most < n {
-        return Answer::OutputTooLong;
     }
     Answer::Accepted
 }
@@ -50,7 +39,7 @@ pub fn check_output(configured: Configured, n: usize) -> Answer
     ensures { λ r. ⌜ (number r ≡ first (outputRows configured n)) × (number r ≡ 0 → n ≤ maxLength) ⌝ }
 {
     match configured {
-        Configured::Absent => check_length(Params::MIN_TAG as usize, Params::MAX_LENGTH, n),
+        Configured::Absent => check_length(Params::MIN_TAG as usize, MAX_LENGTH, n),
         Configured::Length(k) => check_length(k as usize, k as usize, n),
     }
 }
@@ -66,13 +55,13 @@ pub fn too_little(params: Params, words: usize) -> bool
 fn check_inputs(params: Params, password: usize, salt: usize, words: usize) -> Answer
     ensures { λ r. ⌜ number r ≡ first (inputRows params password salt words) ⌝ }
 {
-    if Params::MAX_LENGTH < password {
+    if MAX_LENGTH < password {
         return Answer::PwdTooLong;
     }
     if salt < Params::MIN_SALT {
         return Answer::SaltTooShort;
     }
-    if Params::MAX_LENGTH < salt {
+    if MAX_LENGTH < salt {
         return Answer::SaltTooLong;
     }
     if too_little(params, words) {

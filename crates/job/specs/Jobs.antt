@@ -4,12 +4,12 @@ use mathlib.Core.Bool.{Bool, true, false, cond, not, _&&_, _||_}
 use mathlib.Core.List.{List, [], _∷_, _++_}
 use lib.Dec.{leb, ltb, eqb}
 use lib.ListN.{length, getD, set, replicate}
-use Rattle.answer.specs.Answers.{Row, _when_, first}
+use Rattle.answer.specs.Answers.{Row, _when_, first, lengthRows}
 use Rattle.params.specs.Limits.{rows, slices, maxLanes, segment}
 use Rattle.params.specs.declared.Configured.the-variants.{Absent}
 use Rattle.params.specs.declared.Params.{Params}
 use Rattle.position.specs.Position.{firstBlock}
-use Rattle.checks.specs.Rows.{outputRows, outputTooShort, outputTooLong, memoryTooLittle}
+use Rattle.checks.specs.Rows.{outputRows, memoryTooLittle}
 use Rattle.job.specs.declared.Job.{Job}
 
 -- f holds of every number under n; of some number under n
@@ -133,4 +133,4 @@ stepRows j words l = jobInvalid j ∷ memoryTooLittle (j .params) words ∷ fill
 -- finish checks 17, 16, 21, 11, 12, the last two by the tag length that the job was started with
 abbrev pub finishRows : Job → ℕ → ℕ → List Row
 finishRows j words out =
-    jobInvalid j ∷ memoryTooLittle (j .params) words ∷ notComplete j ∷ outputTooShort (j .tag) out ∷ outputTooLong (j .tag) out ∷ []
+    jobInvalid j ∷ memoryTooLittle (j .params) words ∷ notComplete j ∷ lengthRows (j .tag) (j .tag) out

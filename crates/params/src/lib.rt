@@ -59,9 +59,6 @@ impl Params {
 
     pub const MAX_DATA: usize = 32;
 
-    // The most bytes of a password, a salt, a secret and a tag.
-    pub const MAX_LENGTH: usize = 0xffff_ffff;
-
     // The parameters of six numbers, as the program and the C boundary have them: a configured length of 0 stands for none.
     pub fn from_numbers(
         algorithm: u32,

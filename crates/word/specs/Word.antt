@@ -26,3 +26,7 @@ wordAt s at = numberAt 8 s at
 abbrev pub toLe : ℕ → ℕ → List ℕ
 toLe zero x = []
 toLe (suc n) x = x % 256 ∷ toLe n (x / 256)
+
+-- RFC 9106, 3.1, the most bytes of an input and of a tag: as many as 4 bytes can count
+abbrev pub maxLength : ℕ
+maxLength = 2 ^ 32 - 1

@@ -1,6 +1,9 @@
 // Words of 64 bits: rotation, and the little-endian order of their bytes.
 ghost use Rattle.word.specs.Promises.{RotatePromise, FromLePromise, LoadPromise, ToLePromise};
 
+// The most bytes of an input and of a tag: as many as four bytes can count.
+pub const MAX_LENGTH: usize = 0xffff_ffff;
+
 // The word x, rotated right by 32 bits.
 pub fn rotr32(x: u64) -> u64
     ensures { λ r. ⌜ RotatePromise 32 x r ⌝ }

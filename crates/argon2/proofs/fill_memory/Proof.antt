@@ -10,7 +10,7 @@ use Rattle.answer.specs.Answers.{first}
 use Rattle.argon2.specs.Argon2.{filled}
 use Rattle.argon2.specs.Calls.{memoryFilled}
 use Rattle.checks.specs.Rows.{fillRows}
-use Rattle.checks.proofs.Answered.{left-new, left-old}
+use Rattle.answer.proofs.Answered.{left-new, left-old}
 use Rattle.argon2.proofs.Inputs.{fill-lent, fill-countable}
 use Rattle.argon2.proofs.fill_memory.Statement.{statement}
 use Rattle.argon2.proofs.fill_memory.Tie as tie

@@ -8,7 +8,7 @@ use Rattle.answer.specs.Answers.{first}
 use Rattle.argon2.specs.Argon2.{tagOf}
 use Rattle.argon2.specs.Calls.{finished}
 use Rattle.job.specs.Jobs.{finishRows}
-use Rattle.checks.proofs.Answered.{left-new, left-old}
+use Rattle.answer.proofs.Answered.{left-new, left-old}
 use Rattle.argon2.proofs.Inputs.{tag-some}
 use Rattle.job.proofs.Jobs.{finishing}
 use Rattle.argon2.proofs.finish.Statement.{statement}

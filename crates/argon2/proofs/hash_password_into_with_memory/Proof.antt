@@ -11,7 +11,7 @@ use Rattle.argon2.specs.Argon2.{tagOf, filled}
 use Rattle.argon2.specs.Calls.{hashed}
 use Rattle.argon2.specs.Inner.{Lent, Countable}
 use Rattle.checks.specs.Rows.{startRows}
-use Rattle.checks.proofs.Answered.{left-new, left-old}
+use Rattle.answer.proofs.Answered.{left-new, left-old}
 use Rattle.argon2.proofs.Inputs.{start-lent, start-countable, start-some}
 use Rattle.argon2.proofs.hash_password_into_with_memory.Statement.{statement}
 use Rattle.argon2.proofs.hash_password_into_with_memory.Tie as tie

@@ -14,7 +14,7 @@ use Rattle.initial.specs.Initial.{initialHash}
 use Rattle.argon2.specs.Start.{startMemory}
 use Rattle.job.specs.Jobs.{startJob, zeroJob}
 use Rattle.checks.specs.Rows.{startRows}
-use Rattle.checks.proofs.Answered.{left-new, left-old}
+use Rattle.answer.proofs.Answered.{left-new, left-old}
 use Rattle.argon2.proofs.Inputs.{start-lent, start-countable}
 use Rattle.argon2.proofs.start.Statement.{statement}
 use Rattle.argon2.proofs.start.Tie as tie

@@ -8,7 +8,7 @@ use Rattle.answer.specs.Answers.{first}
 use Rattle.argon2.specs.Calls.{stepped}
 use Rattle.argon2.specs.Filling.{fill}
 use Rattle.job.specs.Jobs.{position, stepRows}
-use Rattle.checks.proofs.Answered.{left-new, left-old}
+use Rattle.answer.proofs.Answered.{left-new, left-old}
 use Rattle.job.proofs.Jobs.{Ready, ready}
 use Rattle.argon2.proofs.step.Statement.{statement}
 use Rattle.argon2.proofs.step.Tie as tie

@@ -3,7 +3,7 @@ use mathlib.Core.List.{_++_}
 use borrow.Author.Needs.{needs}
 use Rattle.params.specs.Limits.{rows}
 use Rattle.checks.specs.Rows.{extraRows, inputRows}
-use Rattle.checks.proofs.Answered.{joined}
+use Rattle.answer.proofs.Answered.{joined}
 use Rattle.checks.proofs.check_fill.Statement.{statement}
 use Rattle.checks.proofs.check_fill.Tie as tie
 

@@ -5,7 +5,7 @@ use borrow.Author.Needs.{needs}
 use Rattle.answer.proofs.Rows.{passed, accepted, passed-front, passed-back}
 use Rattle.params.specs.Limits.{rows}
 use Rattle.checks.specs.Rows.{extraRows, outputRows, inputRows}
-use Rattle.checks.proofs.Answered.{joined}
+use Rattle.answer.proofs.Answered.{joined}
 use Rattle.checks.proofs.check_start.Statement.{statement}
 use Rattle.checks.proofs.check_start.Tie as tie
 

@@ -3,7 +3,7 @@ use mathlib.Core.Path.{_≡_, sym, ap, _∙_}
 use native.Mathlib.Omega.{arith}
 use borrow.Author.Needs.{needs}
 use Rattle.answer.specs.Answers.{first}
-use Rattle.checks.proofs.Answered.{left-new, left-old}
+use Rattle.answer.proofs.Answered.{left-new, left-old}
 use Rattle.job.specs.Jobs.{moved, settled, stepRows}
 use Rattle.job.proofs.Jobs.{Ready, ready, inside-bounds}
 use Rattle.job.proofs.Job.after.Statement.{statement}

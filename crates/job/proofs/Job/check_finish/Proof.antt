@@ -1,17 +1,16 @@
 -- `job::Job::check_finish` meets its contract: at each return the tests on the way say which row is the first that holds. Assumes nothing.
 use Prim.Native.Nat.{_*_, _≤_}
 use mathlib.Core.Bool.{true, false}
-use mathlib.Core.List.{[], _∷_}
 use mathlib.Core.Path.{_≡_, sym, _∙_}
 use native.Mathlib.Omega.{arith}
 use lib.Dec.{ltb}
 use borrow.Author.Needs.{needs}
-use borrow.Author.Tests.{not-true, not-false, ltb-false}
-use Rattle.answer.proofs.Rows.{passed}
+use borrow.Author.Tests.{not-true, not-false}
+use Rattle.answer.proofs.Answered.{between}
 use Rattle.block.specs.Block.{blockWords}
 use Rattle.params.specs.Limits.{blocks}
 use Rattle.job.specs.Jobs.{consistent}
-use Rattle.checks.specs.Rows.{maxLength, outputTooShort, outputTooLong}
+use Rattle.word.specs.Word.{maxLength}
 use Rattle.job.proofs.Job.check_finish.Statement.{statement}
 use Rattle.job.proofs.Job.check_finish.Tie as tie
 
@@ -45,10 +44,8 @@ returns-4 c =
     let done = sym (e .before .complete .ensures) ∙ not-false (e .before .complete .result) (e .if3 .left) in
     let a = d .before .before .before .before .before .args in
     let tag = a .self .tag in (
-      rw (past17 (d .before .before), past16 d, done) (c .check-length .ensures),
-      λ z.
-          let p = passed (outputTooShort tag (a .n) ∷ outputTooLong tag (a .n) ∷ []) tt (sym (c .check-length .ensures) ∙ z) in
-          omega (arith, ltb-false tag (a .n) (p .1 .0), tag-fits (d .before .before)),
+      rw (past17 (d .before .before), past16 d, done) (c .check-length .ensures .answer),
+      λ z. omega (arith, between tag tag (a .n) (sym (c .check-length .ensures .answer) ∙ z) .1, tag-fits (d .before .before)),
     )
 
 pub check-finish-spec : {M : Type 1} → statement M

@@ -8,7 +8,7 @@ use borrow.Author.Needs.{needs}
 use Rattle.answer.specs.Answers.{first}
 use Rattle.params.specs.Limits.{rows, maxLanes}
 use Rattle.params.proofs.Within.{params-within}
-use Rattle.checks.proofs.Answered.{left-new, left-old}
+use Rattle.answer.proofs.Answered.{left-new, left-old}
 use Rattle.job.specs.Jobs.{settled, startJob, zeroJob}
 use Rattle.job.proofs.Job.start.Statement.{statement}
 use Rattle.job.proofs.Job.start.Tie as tie
