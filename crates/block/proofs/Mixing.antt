@@ -4,7 +4,7 @@ use mathlib.Core.Path.{_≡_, subst⁻¹, ap, sym, _∙_}
 use native.Mathlib.Omega.{arith}
 use native.Mathlib.Nat.{add-mod, le-of-lt, lt-of-le-of-lt, mul-le-mul-left, mul-lt-mul-of-pos-right}
 use lib.Pow.{pow-pos, pow-add}
-use Rattle.block.specs.Block.{trunc, mix}
+use Rattle.block.specs.Block.{trunc, multiplyAdd}
 
 pub product-lt : (k : ℕ) {a b : ℕ} → a < 2 ^ k → b < 2 ^ k → a * b < 2 ^ (k + k)
 product-lt k {a} {b} ha hb =
@@ -18,6 +18,6 @@ wraps a b p =
 
 -- the sum of sums, from the equations of its parts
 pub mixed : (a b : ℕ) {t u s d r : ℕ} → r ≡ (s + d) % 2 ^ 64 → s ≡ (a + b) % 2 ^ 64 → d ≡ (t * u + t * u) % 2 ^ 64 → t ≡ trunc a → u ≡ trunc b
-    → r ≡ mix a b
-unfolding mix
+    → r ≡ multiplyAdd a b
+unfolding multiplyAdd
 mixed a b e₅ e₄ e₃ e₂ e₁ = cc (wraps a b (trunc a * trunc b))

@@ -1,6 +1,8 @@
 // Argon2's block and its compression (RFC 9106, sections 3.5 and 3.6).
 ghost use mathlib.Core.Path.{_≡_};
+ghost use lib.Bits.{bitXor};
 ghost use lib.ListN.{length};
+ghost use Rattle.word.specs.Word.{rotr};
 ghost use Prim.Native.Nat.{ℕ, _+_, _*_, _<_};
 ghost use Rattle.block.specs.Block as spec;
 ghost use Rattle.block.specs.Line.{Inside, Laid, Cut, Permuted};
@@ -23,8 +25,8 @@ fn trunc(a: u64) -> u64
 }
 
 // The sum of two words and of twice the product of their low halves; each sum wraps at 64 bits.
-fn mix(a: u64, b: u64) -> u64
-    ensures { λ r. ⌜ r ≡ spec.mix a b ⌝ }
+fn multiply_add(a: u64, b: u64) -> u64
+    ensures { λ r. ⌜ r ≡ spec.multiplyAdd a b ⌝ }
 {
     let product = trunc(a) * trunc(b);
     let sum = std::num::wrapping_add_u64(a, b);
@@ -32,18 +34,43 @@ fn mix(a: u64, b: u64) -> u64
     std::num::wrapping_add_u64(sum, doubled)
 }
 
+// The XOR of two words, turned by the first, second, third and fourth rotation of a quarter step.
+fn turn1(x: u64, y: u64) -> u64
+    ensures { λ r. ⌜ r ≡ rotr spec.R1 (bitXor x y) ⌝ }
+{
+    rotr32(x ^ y)
+}
+
+fn turn2(x: u64, y: u64) -> u64
+    ensures { λ r. ⌜ r ≡ rotr spec.R2 (bitXor x y) ⌝ }
+{
+    rotr24(x ^ y)
+}
+
+fn turn3(x: u64, y: u64) -> u64
+    ensures { λ r. ⌜ r ≡ rotr spec.R3 (bitXor x y) ⌝ }
+{
+    rotr16(x ^ y)
+}
+
+fn turn4(x: u64, y: u64) -> u64
+    ensures { λ r. ⌜ r ≡ rotr spec.R4 (bitXor x y) ⌝ }
+{
+    rotr63(x ^ y)
+}
+
 // The quarter step: four words after it.
 fn quarter(a: u64, b: u64, c: u64, d: u64) -> [u64; 4]
     ensures { λ r. ⌜ r ≡ spec.quarter a b c d ⌝ }
 {
-    let a1 = mix(a, b);
-    let d1 = rotr32(d ^ a1);
-    let c1 = mix(c, d1);
-    let b1 = rotr24(b ^ c1);
-    let a2 = mix(a1, b1);
-    let d2 = rotr16(d1 ^ a2);
-    let c2 = mix(c1, d2);
-    let b2 = rotr63(b1 ^ c2);
+    let a1 = multiply_add(a, b);
+    let d1 = turn1(d, a1);
+    let c1 = multiply_add(c, d1);
+    let b1 = turn2(b, c1);
+    let a2 = multiply_add(a1, b1);
+    let d2 = turn3(d1, a2);
+    let c2 = multiply_add(c1, d2);
+    let b2 = turn4(b1, c2);
     [a2, b2, c2, d2]
 }
 
@@ -127,6 +154,20 @@ fn lines(q: Block, between: usize, step: usize) -> Block
     Block { words: z }
 }
 
+// The permutation on every row.
+fn rows(q: Block) -> Block
+    ensures { λ r. ⌜ r .words ≡ spec.rows (q .words) ⌝ }
+{
+    lines(q, Block::SIDE, 1)
+}
+
+// The permutation on every column.
+fn columns(q: Block) -> Block
+    ensures { λ r. ⌜ r .words ≡ spec.columns (q .words) ⌝ }
+{
+    lines(q, 1, Block::SIDE)
+}
+
 impl Block {
     // The bytes of a block.
     pub const SIZE: usize = 1024;
@@ -170,8 +211,8 @@ impl Block {
         ensures { λ r. ⌜ CompressPromise x y r ⌝ }
     {
         let r = Block::xor(x, y);
-        let q = lines(r, Block::SIDE, 1);
-        let z = lines(q, 1, Block::SIDE);
+        let q = rows(r);
+        let z = columns(q);
         Block::xor(z, r)
     }
 }

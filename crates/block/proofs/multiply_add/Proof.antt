@@ -1,9 +1,9 @@
--- `block::mix` meets its contract: the product fits, and the three sums are one. Assumes nothing.
+-- `block::multiply_add` meets its contract: the product fits, and the three sums are one. Assumes nothing.
 use borrow.Author.Needs.{needs}
 use native.Mathlib.Omega.{arith}
 use Rattle.block.proofs.Mixing.{product-lt, mixed}
-use Rattle.block.proofs.mix.Statement.{statement}
-use Rattle.block.proofs.mix.Tie as tie
+use Rattle.block.proofs.multiply_add.Statement.{statement}
+use Rattle.block.proofs.multiply_add.Tie as tie
 
 mul-product : tie.Need-mul-product
 mul-product c = record { fits = product-lt 32 (omega arith) (omega arith) }
@@ -15,8 +15,8 @@ returns c =
     mixed _ _ (c .wrapping-add-u643 .ensures) (s .wrapping-add-u64 .ensures) (c .before .wrapping-add-u642 .ensures) (t .before .trunc .ensures)
     (t .trunc2 .ensures)
 
-pub mix-spec : {M : Type 1} → statement M
-mix-spec =
+pub multiply-add-spec : {M : Type 1} → statement M
+multiply-add-spec =
     tie.close
     (tie.spec
     (λ c κs. search needs)
