@@ -1,16 +1,12 @@
--- What the crate's own functions require and leave: parameters that are accepted, in a memory of so many words, there a block that a step
--- fills, and the memory with a block stored; and inputs that can be counted.
+-- What the crate's own functions require: parameters that are accepted, in a memory of so many words, and there a block that a step fills;
+-- and inputs that can be counted.
 use Prim.Native.Nat.{ℕ, _+_, _*_, _≤_, _<_}
-use mathlib.Core.Bool.{cond}
-use mathlib.Core.List.{List}
 use mathlib.Core.Path.{_≡_}
 use Rattle.answer.specs.Answers.{first}
-use Rattle.block.specs.Block.{blockWords, xors}
+use Rattle.block.specs.Block.{blockWords}
 use Rattle.params.specs.Limits.{rows, slices, segment, blocks}
 use Rattle.params.specs.declared.Params.{Params}
 use Rattle.position.specs.Position.{firstBlock}
-use Rattle.argon2.specs.Filling.{overwrites}
-use Rattle.argon2.specs.Memory.{block, put}
 use Rattle.word.specs.Word.{maxLength}
 
 -- "Domain and sizes": a memory of so many words has block b
@@ -42,7 +38,3 @@ pub record Fillable (P : Params) (r sl l k words : ℕ) : Type 0 where
   pub of : Segment P r sl l words
   pub from : firstBlock r sl ≤ k
   pub inside : k < segment P
-
--- "Store": the memory once the words new are stored at block b
-abbrev pub stored : Params → ℕ → ℕ → List ℕ → List ℕ → List ℕ
-stored P r b new w = put b (cond (overwrites P r) new (xors (block b w) new)) w

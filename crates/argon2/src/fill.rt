@@ -9,7 +9,7 @@ ghost use Rattle.params.specs.Limits.{slices, segment};
 ghost use Rattle.position.specs.Address.{addressed};
 ghost use Rattle.position.specs.Position as position;
 ghost use Rattle.argon2.specs.Filling as spec;
-ghost use Rattle.argon2.specs.Inner.{Has, Lent, Segment, Fillable, stored};
+ghost use Rattle.argon2.specs.Inner.{Has, Lent, Segment, Fillable};
 ghost use Rattle.argon2.specs.Memory as memory;
 use crate::blocks::read_block;
 use crate::blocks::write_block;
@@ -124,7 +124,8 @@ fn random_word(
 // Stores a new block: pass 0 or version 16 overwrites; otherwise XOR with what stood there.
 fn store(words: &mut [u64], params: Params, pass: u32, at: usize, new: Block)
     requires { ⌜ Has (length (now words)) at ⌝ }
-    ensures { λ _. ⌜ now (words .exit) ≡ stored params pass at (new .words) (now (words .entry)) ⌝ }
+    ensures { λ _. ⌜ now (words .exit)
+        ≡ memory.put at (spec.stored params pass (memory.block at (now (words .entry))) (new .words)) (now (words .entry)) ⌝ }
 {
     if (pass == 0) | (params.version == Params::V0X10) {
         write_block(words, at, new);
