@@ -1,4 +1,4 @@
--- What accepted inputs are: parameters in a memory that has their blocks, and lengths whose counts 4 bytes hold. Assumes nothing.
+-- What accepted inputs are: parameters in a memory that has their blocks, and a tag of some bytes. Assumes nothing.
 use Prim.Native.Nat.{ℕ, _*_, _≤_}
 use mathlib.Core.Bool.{false}
 use mathlib.Core.List.{_++_}
@@ -13,9 +13,8 @@ use Rattle.params.specs.Limits.{rows, blocks, minTag, underMinTag}
 use Rattle.params.specs.declared.Configured.{Configured}
 use Rattle.params.specs.declared.Configured.the-variants.{Absent, Length}
 use Rattle.params.specs.declared.Params.{Params}
-use Rattle.argon2.specs.Inner.{Lent, Countable}
-use Rattle.checks.specs.Rows.{maxData, leastTag, outputRows, extraRows, inputRows, startRows, fillRows}
-use Rattle.word.specs.Word.{maxLength}
+use Rattle.argon2.specs.Inner.{Lent}
+use Rattle.checks.specs.Rows.{leastTag, outputRows, extraRows, inputRows, startRows, fillRows}
 
 -- a length that rows 8 and 11 accept is not 0
 some-bytes : (g : Configured) (n : ℕ) → underMinTag g ≡ false → ltb n (leastTag g) ≡ false → 1 ≤ n
@@ -30,16 +29,6 @@ module _ (P : Params) (password salt secret ad words : ℕ) where
   lent : Passed (rows P) → Passed (inputRows P password salt words) → Lent P words
   lent numbers inputs =
       record { accepted = accepted (rows P) numbers; enough = ltb-false words (blockWords * blocks P) (inputs .1 .1 .1 .0) }
-
-  countable : (n : ℕ) → n ≤ maxLength → Passed (extraRows secret ad) → Passed (inputRows P password salt words) → Countable n password salt secret ad
-  countable n fits extra inputs =
-      record {
-        of-tag = fits;
-        of-password = ltb-false maxLength password (inputs .0);
-        of-salt = ltb-false maxLength salt (inputs .1 .1 .0);
-        of-secret = ltb-false maxLength secret (extra .1 .0);
-        of-ad = omega (arith, ltb-false maxData ad (extra .0));
-      }
 
   -- start and the whole hash, for a tag of n bytes
   module _ (n : ℕ) (h : first (startRows P n password salt secret ad words) ≡ 0) where
@@ -58,9 +47,6 @@ module _ (P : Params) (password salt secret ad words : ℕ) where
     pub start-lent : Lent P words
     start-lent = lent numbers inputs
 
-    pub start-countable : n ≤ maxLength → Countable n password salt secret ad
-    start-countable fits = countable n fits (after .0, (after .1 .0, tt)) inputs
-
     pub start-some : 1 ≤ n
     start-some = some-bytes (P .configured) n (numbers .1 .1 .1 .1 .1 .1 .1 .0) (after .1 .1 .0)
 
@@ -74,6 +60,3 @@ module _ (P : Params) (password salt secret ad words : ℕ) where
 
     pub fill-lent : Lent P words
     fill-lent = lent (passed-front (rows P) (extraRows secret ad ++ inputRows P password salt words) fill-all) (fill-after .1 .1)
-
-    pub fill-countable : Countable 0 password salt secret ad
-    fill-countable = countable 0 (omega arith) (fill-after .0, (fill-after .1 .0, tt)) (fill-after .1 .1)

@@ -5,6 +5,7 @@ pub mod Inputs
 pub mod LastBlocks
 pub mod Loop
 pub mod Memory
+mod Parts
 pub mod Settled
 pub mod StartMemory
 pub mod StartWrites

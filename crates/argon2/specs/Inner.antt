@@ -1,5 +1,4 @@
--- What the crate's own functions require: parameters that are accepted, in a memory of so many words, and there a block that a step fills;
--- and inputs that can be counted.
+-- What the crate's own functions require: parameters that are accepted, in a memory of so many words, and there a block that a step fills.
 use Prim.Native.Nat.{ℕ, _+_, _*_, _≤_, _<_}
 use mathlib.Core.Path.{_≡_}
 use Rattle.answer.specs.Answers.{first}
@@ -7,7 +6,6 @@ use Rattle.block.specs.Block.{blockWords}
 use Rattle.params.specs.Limits.{rows, slices, segment, blocks}
 use Rattle.params.specs.declared.Params.{Params}
 use Rattle.position.specs.Position.{firstBlock}
-use Rattle.word.specs.Word.{maxLength}
 
 -- "Domain and sizes": a memory of so many words has block b
 abbrev pub Has : ℕ → ℕ → Type 0
@@ -17,14 +15,6 @@ Has words b = blockWords * b + blockWords ≤ words
 pub record Lent (P : Params) (words : ℕ) : Type 0 where
   pub accepted : first (rows P) ≡ 0
   pub enough : blockWords * blocks P ≤ words
-
--- "Domain and sizes": a tag of n bytes, and inputs of so many, whose counts 4 bytes hold
-pub record Countable (n password salt secret ad : ℕ) : Type 0 where
-  pub of-tag : n ≤ maxLength
-  pub of-password : password ≤ maxLength
-  pub of-salt : salt ≤ maxLength
-  pub of-secret : secret ≤ maxLength
-  pub of-ad : ad ≤ maxLength
 
 -- "The job": pass, slice and lane are those of a segment
 pub record Segment (P : Params) (r sl l words : ℕ) : Type 0 where

@@ -1,12 +1,5 @@
 // Argon2 (RFC 9106), one block a call, in memory that the caller lends.
-ghost use mathlib.Core.Path.{_≡_};
 ghost use denote.Ref.{now};
-ghost use lib.ListN.{length};
-ghost use Rattle.params.specs.Limits.{segment};
-ghost use Rattle.argon2.specs.Argon2.{filled};
-ghost use Rattle.initial.specs.Initial.{initialHash};
-ghost use Rattle.argon2.specs.Start.{startMemory};
-ghost use Rattle.argon2.specs.Inner.{Lent, Countable};
 ghost use Rattle.argon2.specs.Promises.{StartPromise, StepPromise, FinishPromise, HashPromise, FillMemoryPromise};
 
 mod blocks;
@@ -25,50 +18,11 @@ pub use job::Job;
 pub use job::Stepped;
 use params::Params;
 use position::LaneNumber;
-use tag::tag;
+use tag::write_tag;
 
 pub struct Started {
     pub answer: Answer,
     pub job: Job,
-}
-
-// The blocks that every lane begins with: those of the initial hash.
-fn begin(
-    params: Params,
-    tag: usize,
-    password: &[u8],
-    salt: &[u8],
-    secret: &[u8],
-    ad: &[u8],
-    words: &mut [u64],
-)
-    requires { ⌜ Lent params (length (now words))
-        × Countable tag (length (now password)) (length (now salt)) (length (now secret)) (length (now ad)) ⌝ }
-    ensures { λ _. ⌜ now (words .exit)
-        ≡ startMemory (initialHash params tag (now (password .entry)) (now (salt .entry)) (now (secret .entry)) (now (ad .entry)))
-        (params .lanes) (segment params) (now (words .entry)) ⌝ }
-{
-    let h = initial_hash(params, tag, password, salt, secret, ad);
-    first_blocks(words, params, h);
-}
-
-// The blocks that every lane begins with, and then all the others, pass after pass.
-fn complete(
-    params: Params,
-    tag: usize,
-    password: &[u8],
-    salt: &[u8],
-    secret: &[u8],
-    ad: &[u8],
-    words: &mut [u64],
-)
-    requires { ⌜ Lent params (length (now words))
-        × Countable tag (length (now password)) (length (now salt)) (length (now secret)) (length (now ad)) ⌝ }
-    ensures { λ _. ⌜ now (words .exit)
-        ≡ filled params tag (now (password .entry)) (now (salt .entry)) (now (secret .entry)) (now (ad .entry)) (now (words .entry)) ⌝ }
-{
-    begin(params, tag, password, salt, secret, ad, &mut *words);
-    fill_all(words, params);
 }
 
 // Argon2 as a whole: the tag fills out, and the words are left as the filling leaves them. Refused, words and out stay.
@@ -97,8 +51,10 @@ pub fn hash_password_into_with_memory(
     if answer.number() != 0 {
         return answer;
     }
-    complete(params, n, password, salt, secret, ad, &mut *words);
-    tag(&*words, params, out);
+    let h = initial_hash(params, n, password, salt, secret, ad);
+    first_blocks(&mut *words, params, h);
+    fill_all(&mut *words, params);
+    write_tag(&*words, params, out);
     answer
 }
 
@@ -125,7 +81,9 @@ pub fn fill_memory(
     if answer.number() != 0 {
         return answer;
     }
-    complete(params, 0, password, salt, secret, ad, words);
+    let h = initial_hash(params, 0, password, salt, secret, ad);
+    first_blocks(&mut *words, params, h);
+    fill_all(words, params);
     answer
 }
 
@@ -155,7 +113,8 @@ pub fn start(
         let job = Job::zeros();
         return Started { answer, job };
     }
-    begin(params, tag, password, salt, secret, ad, words);
+    let h = initial_hash(params, tag, password, salt, secret, ad);
+    first_blocks(words, params, h);
     let job = Job::start(params, tag);
     Started { answer, job }
 }
@@ -184,6 +143,6 @@ pub fn finish(job: Job, words: &[u64], out: &mut [u8]) -> Answer
         return checked;
     }
     let params = job.params;
-    tag(words, params, out);
+    write_tag(words, params, out);
     checked
 }

@@ -33,7 +33,7 @@ fn last_blocks(words: &[u64], params: Params) -> Block
 }
 
 // The tag of a filled memory: the variable-length hash of that XOR, as many bytes as out has.
-pub(crate) fn tag(words: &[u64], params: Params, out: &mut [u8])
+pub(crate) fn write_tag(words: &[u64], params: Params, out: &mut [u8])
     requires { ⌜ Lent params (length (now words))
         × (1 ≤ length (now out))
         × (length (now out) ≤ maxLength) ⌝ }

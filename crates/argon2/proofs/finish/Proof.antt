@@ -35,8 +35,8 @@ returns c =
       output = sym (left-old (answer s) (tagOf (a .job .params) (length (a .out .now)) (a .words .now)) (a .out .now) refused);
     }
 
-tag-requires : tie.Need-tag-requires
-tag-requires c κs =
+write-tag-requires : tie.Need-write-tag-requires
+write-tag-requires c κs =
     let e = c .before .before in
     let a = e .before .before .before .before .before .args in
     let f = finishing (a .job) (length (a .words .now)) (length (a .out .now)) (accepted e) in
@@ -55,9 +55,9 @@ returns-2 c =
     let a = s .args in
     record {
       answer = e .before .before .check-finish .ensures .0;
-      output = t .tag .ensures ∙ sym (left-new (answer s) (tagOf (a .job .params) (length (a .out .now)) (a .words .now)) (a .out .now) (accepted e));
+      output = t .write-tag .ensures ∙ sym (left-new (answer s) (tagOf (a .job .params) (length (a .out .now)) (a .words .now)) (a .out .now) (accepted e));
     }
 
 pub finish-spec : {M : Type 1} → statement M
 finish-spec =
-    tie.close (tie.spec (λ c κs. search needs) (λ c κs. search needs) returns tag-requires (λ c. search needs) returns-2)
+    tie.close (tie.spec (λ c κs. search needs) (λ c κs. search needs) returns write-tag-requires (λ c. search needs) returns-2)

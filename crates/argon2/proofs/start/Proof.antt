@@ -1,5 +1,4 @@
--- `argon2::start` meets its contract: refused, the words stay; accepted, the rows say that the memory has the blocks and that the counts fit.
--- Assumes nothing.
+-- `argon2::start` meets its contract: refused, the words stay; accepted, the rows say that the memory has the blocks. Assumes nothing.
 use Prim.Native.Nat.{ℕ}
 use mathlib.Core.List.{List}
 use mathlib.Core.Path.{_≡_, sym, _∙_}
@@ -9,13 +8,14 @@ use borrow.Author.Needs.{needs}
 use Rattle.answer.specs.Answers.{first}
 use Rattle.params.specs.Limits.{rows, segment}
 use Rattle.argon2.specs.Calls.{started}
-use Rattle.argon2.specs.Inner.{Lent, Countable}
+use Rattle.argon2.specs.Inner.{Lent}
 use Rattle.initial.specs.Initial.{initialHash}
 use Rattle.argon2.specs.Start.{startMemory}
 use Rattle.job.specs.Jobs.{startJob, zeroJob}
 use Rattle.checks.specs.Rows.{startRows}
 use Rattle.answer.proofs.Answered.{left-new, left-old}
-use Rattle.argon2.proofs.Inputs.{start-lent, start-countable}
+use Rattle.argon2.proofs.Inputs.{start-lent}
+use Rattle.argon2.proofs.Parts.{begun}
 use Rattle.argon2.proofs.start.Statement.{statement}
 use Rattle.argon2.proofs.start.Tie as tie
 
@@ -49,32 +49,30 @@ returns c =
       memory = sym (left-old (answer s) (memory s) (a .words .now) refused);
     }
 
-asked : (c : tie.Else1) → let a = c .before .before .before .before .before .before .before .before .args in
-    Lent (a .params) (length (a .words .now))
-    × Countable (a .tag) (length (a .password .now)) (length (a .salt .now)) (length (a .secret .now)) (length (a .ad .now))
-asked c =
+lent : (c : tie.Else1) → let a = c .before .before .before .before .before .before .before .before .args in Lent (a .params) (length (a .words .now))
+lent c =
     let a = c .before .before .before .before .before .before .before .before .args in
-    let fits = c .before .before .check-start .ensures .1 (sym (c .before .number .ensures .result) ∙ c .if1 .left) in
-    let pw = length (a .password .now) in
-    let salt = length (a .salt .now) in
-    let secret = length (a .secret .now) in
-    let ad = length (a .ad .now) in
-    let words = length (a .words .now) in
-    (start-lent (a .params) pw salt secret ad words (a .tag) (accepted c), start-countable (a .params) pw salt secret ad words (a .tag) (accepted c) fits)
+    start-lent (a .params) (length (a .password .now)) (length (a .salt .now)) (length (a .secret .now)) (length (a .ad .now)) (length (a .words .now))
+    (a .tag) (accepted c)
 
 returns-2 : tie.Need-returns-2
 unfolding started
 returns-2 c =
-    let e = c .before .before .before .before .before in
+    let b = c .before .before .before in
+    let i = b .before .before in
+    let e = i .before in
     let s = e .before .before .before .before .before .before .before .before in
     let a = s .args in
     record {
       answer = e .before .before .check-start .ensures .0;
       job =
           c .start .ensures
-          ∙ left-new (first (rows (a .params))) (startJob (a .params) (a .tag)) zeroJob (asked e .0 .accepted)
+          ∙ left-new (first (rows (a .params))) (startJob (a .params) (a .tag)) zeroJob (lent e .accepted)
           ∙ sym (left-new (answer s) (startJob (a .params) (a .tag)) zeroJob (accepted e));
-      memory = _∙_ {b = memory s} (search needs) (sym (left-new (answer s) (memory s) (a .words .now) (accepted e)));
+      memory =
+          begun (a .params) (a .tag) (a .password .now) (a .salt .now) (a .secret .now) (a .ad .now) (a .words .now) (i .initial-hash .ensures)
+          (b .first-blocks .ensures)
+          ∙ sym (left-new (answer s) (memory s) (a .words .now) (accepted e));
     }
 
 pub start-spec : {M : Type 1} → statement M
@@ -85,7 +83,8 @@ start-spec =
     (λ c κs. search needs)
     (λ c κs. search needs)
     returns
-    (λ c κs. asked (c .before))
+    (λ c κs. search needs)
+    (λ c κs. lent (c .before .before))
     (λ c κs. search needs)
     (λ c. search needs)
     returns-2)

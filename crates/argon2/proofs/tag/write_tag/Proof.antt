@@ -1,4 +1,4 @@
--- `argon2::tag::tag` meets its contract: the variable-length hash, whose length is accepted, of the last blocks' bytes. Assumes nothing.
+-- `argon2::tag::write_tag` meets its contract: the variable-length hash, whose length is accepted, of the last blocks' bytes. Assumes nothing.
 use mathlib.Core.Path.{sym, ap, _∙_}
 use native.Mathlib.Omega.{arith}
 use borrow.Author.Needs.{needs}
@@ -7,8 +7,8 @@ use Rattle.blake2b.specs.Blake2b.{bytes}
 use Rattle.blake2b.proofs.Outputs.{within, if-accepted}
 use Rattle.blake2b_long.specs.Long.{long}
 use Rattle.argon2.specs.Argon2.{tagOf}
-use Rattle.argon2.proofs.tag.tag.Statement.{statement}
-use Rattle.argon2.proofs.tag.tag.Tie as tie
+use Rattle.argon2.proofs.tag.write_tag.Statement.{statement}
+use Rattle.argon2.proofs.tag.write_tag.Tie as tie
 
 returns : tie.Need-returns
 unfolding tagOf
@@ -21,7 +21,7 @@ returns c =
     ∙ sym (if-accepted _ _ _ (sym (within _ n (λ e. omega (arith, start .pre .1)) (start .pre .2))))
     ∙ ap (long n) (whole .bytes-of .ensures ∙ ap bytes (whole .before .last-blocks .ensures))
 
-pub tag-spec : {M : Type 1} → statement M
-tag-spec =
+pub write-tag-spec : {M : Type 1} → statement M
+write-tag-spec =
     tie.close
     (tie.spec (λ c κs. search needs) (λ c κs. search needs) (λ c. search needs) (λ c κs. search needs) (λ c. search needs) returns)
