@@ -4,7 +4,7 @@ use mathlib.Core.List.{List, [], _∷_}
 use lib.Bits.{bitXor}
 use lib.ListN.{getD, set}
 use Rattle.word.specs.Table.{table}
-use Rattle.word.specs.Word.{rotr}
+use Rattle.word.specs.Word.{wordBytes, rotr, lowHalf}
 
 -- 3.2, the bytes of a block
 abbrev pub blockBytes : ℕ
@@ -12,7 +12,7 @@ blockBytes = 1024
 
 -- 3.2, its words of 64 bits
 abbrev pub blockWords : ℕ
-blockWords = blockBytes / 8
+blockWords = blockBytes / wordBytes
 
 -- 3.5, the words of a 16-byte register
 abbrev pub registerWords : ℕ
@@ -30,13 +30,9 @@ rowWords = side * registerWords
 abbrev pub zeros : List ℕ
 zeros = table (λ n. 0) blockWords
 
--- 3.6, the 32 low bits of a word
-abbrev pub trunc : ℕ → ℕ
-trunc a = a % 2 ^ 32
-
--- 3.6, a + b + 2 * trunc(a) * trunc(b), mod 2^64
+-- 3.6, a + b + 2 * trunc(a) * trunc(b), mod 2^64, where trunc(a) is the low half of a
 unfoldable pub multiplyAdd : ℕ → ℕ → ℕ
-multiplyAdd a b = (a + b + 2 * (trunc a * trunc b)) % 2 ^ 64
+multiplyAdd a b = (a + b + 2 * (lowHalf a * lowHalf b)) % 2 ^ 64
 
 -- 3.6, the rotations of GB
 abbrev pub R1 : ℕ

@@ -6,29 +6,26 @@ ghost use Rattle.word.specs.Word.{rotr};
 ghost use Prim.Native.Nat.{ℕ, _+_, _*_, _<_};
 ghost use Rattle.block.specs.Block as spec;
 ghost use Rattle.block.specs.Line.{Inside, Laid, Cut, Permuted};
-ghost use Rattle.block.specs.Promises.{PermutePromise, NewPromise, XorPromise, CompressPromise};
+ghost use Rattle.block.specs.Promises.{PermutePromise, NewPromise, FromBytesPromise, ToBytesPromise, XorPromise, CompressPromise};
+use word::WORD;
+use word::load_words;
+use word::low_half;
 use word::rotr16;
 use word::rotr24;
 use word::rotr32;
 use word::rotr63;
+use word::store_words;
 
 // A block of memory, as words.
 pub struct Block {
     pub words: [u64; Block::WORDS],
 }
 
-// The 32 low bits of a word.
-fn trunc(a: u64) -> u64
-    ensures { λ r. ⌜ r ≡ spec.trunc a ⌝ }
-{
-    a % 0x1_0000_0000
-}
-
 // The sum of two words and of twice the product of their low halves; each sum wraps at 64 bits.
 fn multiply_add(a: u64, b: u64) -> u64
     ensures { λ r. ⌜ r ≡ spec.multiplyAdd a b ⌝ }
 {
-    let product = trunc(a) * trunc(b);
+    let product = low_half(a) * low_half(b);
     let sum = std::num::wrapping_add_u64(a, b);
     let doubled = std::num::wrapping_add_u64(product, product);
     std::num::wrapping_add_u64(sum, doubled)
@@ -173,7 +170,7 @@ impl Block {
     pub const SIZE: usize = 1024;
 
     // Its words.
-    pub const WORDS: usize = Block::SIZE / 8;
+    pub const WORDS: usize = Block::SIZE / WORD;
 
     // The words of a register.
     pub const REGISTER: usize = 2;
@@ -191,6 +188,25 @@ impl Block {
         Block {
             words: [0; Block::WORDS],
         }
+    }
+
+    // The block of some bytes, whose words are little-endian.
+    pub fn from_bytes(bytes: [u8; Block::SIZE]) -> Block
+        ensures { λ r. ⌜ FromBytesPromise bytes r ⌝ }
+    {
+        let mut read = [0; Block::WORDS];
+        load_words(&bytes, &mut read);
+        Block { words: read }
+    }
+
+    // The bytes of a block.
+    pub fn to_bytes(self) -> [u8; Block::SIZE]
+        ensures { λ r. ⌜ ToBytesPromise self r ⌝ }
+    {
+        let words = self.words;
+        let mut out = [0; Block::SIZE];
+        store_words(&words, &mut out);
+        out
     }
 
     // Two blocks, XORed word by word.

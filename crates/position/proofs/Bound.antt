@@ -8,7 +8,7 @@ use native.Mathlib.Nat.{div-lt-iff-lt-mul, mul-lt-mul-of-pos-left}
 use native.Mathlib.Omega.{arith}
 use lib.Dec.{eqb}
 use borrow.Author.Tests.{eqb-false}
-use Rattle.block.proofs.Mixing.{product-lt}
+use Rattle.word.proofs.Half.{product-lt}
 use Rattle.params.specs.Limits.{slices}
 use Rattle.position.specs.Position.{referenceLane, finished, area}
 use Rattle.position.proofs.Accepted.{Filled}
