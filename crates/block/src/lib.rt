@@ -204,9 +204,9 @@ impl Block {
         ensures { λ r. ⌜ ToBytesPromise self r ⌝ }
     {
         let words = self.words;
-        let mut out = [0; Block::SIZE];
-        store_words(&words, &mut out);
-        out
+        let mut written = [0; Block::SIZE];
+        store_words(&words, &mut written);
+        written
     }
 
     // Two blocks, XORed word by word.
