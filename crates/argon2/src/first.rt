@@ -1,7 +1,7 @@
 // The blocks that each lane begins with.
 use crate::blocks::write_block;
 use blake2b::State;
-use initial::first_block_of;
+use initial::first_words;
 use params::Params;
 use position::BlockNumber;
 use position::LaneNumber;
@@ -20,15 +20,11 @@ fn start_lane(words: &mut [u64], params: Params, h: [u8; State::MAX_OUTPUT], lan
     let q = params.lane_length();
     let first = BlockNumber(0);
     let second = BlockNumber(1);
-    write_block(
-        words,
-        first.in_memory(lane, q),
-        first_block_of(h, lane, first),
-    );
+    write_block(words, first.in_memory(lane, q), first_words(h, lane, first));
     write_block(
         words,
         second.in_memory(lane, q),
-        first_block_of(h, lane, second),
+        first_words(h, lane, second),
     );
 }
 

@@ -2,7 +2,6 @@
 use crate::blocks::read_block;
 use blake2b_long::blake2b_long;
 use block::Block;
-use initial::bytes_of;
 use params::Params;
 use position::BlockNumber;
 use position::LaneNumber;
@@ -39,6 +38,6 @@ pub(crate) fn write_tag(words: &[u64], params: Params, out: &mut [u8])
         × (length (now out) ≤ maxLength) ⌝ }
     ensures { λ _. ⌜ now (out .exit) ≡ tagOf params (length (now (out .entry))) (now (words .entry)) ⌝ }
 {
-    let bytes = bytes_of(last_blocks(words, params));
+    let bytes = last_blocks(words, params).to_bytes();
     blake2b_long(&bytes, out);
 }

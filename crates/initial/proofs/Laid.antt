@@ -1,12 +1,21 @@
 -- Pieces laid one after another: what was laid so far stands at the front. Assumes nothing.
-use mathlib.Core.List.{List, _++_}
+use mathlib.Core.List.{List, [], _++_, append-nil, append-assoc}
 use mathlib.Core.Path.{_≡_, refl, sym, ap, _∙_}
-use Prim.Native.Nat.{ℕ, _+_, _*_, _≤_, _<_}
+use Prim.Native.Nat.{ℕ, _+_, _-_, _≤_}
 use native.Mathlib.Omega.{arith}
-use lib.ListN.{length, take, drop, getD, length-append, length-take, length-drop}
-use lib.Seq.{take-at, take-all, length-take-le}
-use Rattle.word.specs.Word.{toLe, bytes}
-use Rattle.word.proofs.Bytes.{bytes-more}
+use lib.ListN.{length, take, drop, length-append, length-take, length-drop, drop-of-length-le}
+use lib.Seq.{take-at, take-all, length-take-le, drop-drop}
+
+-- a copy into the part of o from a place on
+pub copied-at : (o p q : List ℕ) (at : ℕ) → at + length p ≤ length o
+    → q ≡ take (length p) p ++ drop (length p) (take (length o - at) (drop at o))
+    → take at o ++ (q ++ drop (length o - at) (drop at o)) ≡ take at o ++ p ++ drop (at + length p) o
+copied-at o p q at fits e =
+    let rest : length (drop at o) ≡ length o - at = length-drop at o in
+    let none : drop (length o - at) (drop at o) ≡ [] = drop-of-length-le (drop at o) {i = length o - at} (omega (arith, rest)) in
+    let all : take (length o - at) (drop at o) ≡ drop at o = take-all (length o - at) (drop at o) (omega (arith, rest)) in
+    let whole : take (length p) p ≡ p = take-all (length p) p (omega arith) in
+    rw (none, e, all, whole, append-nil, drop-drop (length p) at o) (sym (append-assoc (take at o) p (drop (at + length p) o)))
 
 -- a piece p laid at a place of o
 module _ (o p : List ℕ) (at : ℕ) {o′ : List ℕ} (fits : at + length p ≤ length o) (lay : o′ ≡ take at o ++ p ++ drop (at + length p) o) where
@@ -33,15 +42,3 @@ three-laid o a b c m n {o₁} {o₂} {o₃} la lb lc e₁ e₂ e₃ =
     let t₁ : take m o₁ ≡ a = ap (λ (k : ℕ). take k o₁) at₁ ∙ laid o a 0 (omega arith) e₁ refl in
     let t₂ : take n o₂ ≡ a ++ b = ap (λ (k : ℕ). take k o₂) (sym lb) ∙ laid o₁ b m (omega arith) e₂ t₁ in
     sym (take-all (n + length c) o₃ (omega arith)) ∙ laid o₂ c n (omega arith) e₃ t₂
-
--- a word's bytes laid after those of the n words before it
-pub word-laid : (w o p : List ℕ) (n : ℕ) {o′ : List ℕ} → n < length w → 8 * n + 8 ≤ length o → p ≡ toLe 8 (getD w n 0)
-    → o′ ≡ take (8 * n) o ++ p ++ drop (8 * n + length p) o → take (8 * n) o ≡ bytes (take n w)
-    → take (8 * (n + 1)) o′ ≡ bytes (take (n + 1) w)
-word-laid w o p n {o′} h fits e lay front =
-    let eight : length p ≡ 8 = ap length e in
-    let at : 8 * (n + 1) ≡ 8 * n + length p = omega arith in
-    ap (λ (k : ℕ). take k o′) at
-    ∙ laid o p (8 * n) (omega arith) lay front
-    ∙ ap (λ (l : List ℕ). bytes (take n w) ++ l) e
-    ∙ sym (bytes-more w n h)

@@ -2,3 +2,4 @@ pub mod Digests
 pub mod HashInput
 pub mod Laid
 pub mod MemoryCost
+pub mod Settled

@@ -1,20 +1,18 @@
 // The initial hash (RFC 9106, 3.2), and the words of the blocks that each lane begins with.
-mod bytes;
-
 use blake2b::State;
 use blake2b_long::blake2b_long;
 use block::Block;
-use bytes::block_of;
-pub use bytes::bytes_of;
-use bytes::lay;
 use params::Params;
 use position::BlockNumber;
 use position::LaneNumber;
 use word::to_le32;
 ghost use mathlib.Core.List.{_++_};
 ghost use mathlib.Core.Path.{_≡_};
+ghost use Prim.Native.Nat.{_+_, _≤_};
+ghost use lib.ListN.{length, take, drop};
 ghost use Rattle.blake2b.specs.Stream.{feedAll};
-ghost use Rattle.initial.specs.Initial.{le32, counted, header, initialHash, firstWords};
+ghost use Rattle.initial.specs.Initial.{le32, counted, header};
+ghost use Rattle.initial.specs.Promises.{InitialHashPromise, FirstWordsPromise};
 
 // The bytes of a number, and of what a first block is hashed from.
 const NUMBER: usize = 4;
@@ -69,14 +67,7 @@ pub fn initial_hash(
     secret: &[u8],
     ad: &[u8],
 ) -> [u8; State::MAX_OUTPUT]
-    ensures { λ r. ⌜ r
-        ≡ initialHash
-        params
-        tag
-        (now (password .entry))
-        (now (salt .entry))
-        (now (secret .entry))
-        (now (ad .entry)) ⌝ }
+    ensures { λ r. ⌜ InitialHashPromise params tag (now (password .entry)) (now (salt .entry)) (now (secret .entry)) (now (ad .entry)) r ⌝ }
 {
     let s = State::begin(State::MAX_OUTPUT);
     let s = feed_header(s, params, tag);
@@ -85,6 +76,17 @@ pub fn initial_hash(
     let s = feed_counted(s, secret);
     let s = feed_counted(s, ad);
     s.end()
+}
+
+// The bytes of a piece for those of out from at on; every other byte stays.
+fn lay(out: &mut [u8], at: usize, piece: &[u8])
+    requires { ⌜ at + length (now piece) ≤ length (now out) ⌝ }
+    ensures { λ _. ⌜ now (out .exit)
+        ≡ take at (now (out .entry))
+        ++ now (piece .entry)
+        ++ drop (at + length (now (piece .entry))) (now (out .entry)) ⌝ }
+{
+    bytes::copy(piece, &mut out[at..]);
 }
 
 // What a first block is hashed from: the initial hash, the block's number and the lane's.
@@ -105,11 +107,11 @@ fn first_input(
 }
 
 // A first block of a lane: the variable-length hash of that, as words.
-pub fn first_block_of(h: [u8; State::MAX_OUTPUT], lane: LaneNumber, block: BlockNumber) -> Block
-    ensures { λ r. ⌜ r .words ≡ firstWords h (lane .0) (block .0) ⌝ }
+pub fn first_words(h: [u8; State::MAX_OUTPUT], lane: LaneNumber, block: BlockNumber) -> Block
+    ensures { λ r. ⌜ FirstWordsPromise h lane block r ⌝ }
 {
     let input = first_input(h, lane, block);
     let mut bytes = [0; Block::SIZE];
     blake2b_long(&input, &mut bytes);
-    block_of(bytes)
+    Block::from_bytes(bytes)
 }

@@ -69,7 +69,7 @@ returns-2 c =
     record {
       answer = e .before .before .check-fill .ensures;
       memory =
-          completed (a .params) 0 (a .password .now) (a .salt .now) (a .secret .now) (a .ad .now) (a .words .now) (i .initial-hash .ensures)
+          completed (a .params) 0 (a .password .now) (a .salt .now) (a .secret .now) (a .ad .now) (a .words .now) (i .initial-hash .ensures .result)
           (b .first-blocks .ensures) (f .fill-all .ensures)
           ∙ sym (left-new (answer s) (memory s) (a .words .now) (accepted e));
     }

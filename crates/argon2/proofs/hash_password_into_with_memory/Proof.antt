@@ -90,7 +90,7 @@ returns-2 c =
     let a = s .args in
     let filling =
     completed (a .params) (length (a .out .now)) (a .password .now) (a .salt .now) (a .secret .now) (a .ad .now) (a .words .now)
-    (i .initial-hash .ensures) (b .first-blocks .ensures) (f .fill-all .ensures) in
+    (i .initial-hash .ensures .result) (b .first-blocks .ensures) (f .fill-all .ensures) in
     record {
       answer = e .before .before .check-start .ensures .0;
       memory = filling ∙ sym (left-new (answer s) (memory s) (a .words .now) (accepted e));

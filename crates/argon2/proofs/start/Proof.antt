@@ -70,7 +70,7 @@ returns-2 c =
           ∙ left-new (first (rows (a .params))) (startJob (a .params) (a .tag)) zeroJob (lent e .accepted)
           ∙ sym (left-new (answer s) (startJob (a .params) (a .tag)) zeroJob (accepted e));
       memory =
-          begun (a .params) (a .tag) (a .password .now) (a .salt .now) (a .secret .now) (a .ad .now) (a .words .now) (i .initial-hash .ensures)
+          begun (a .params) (a .tag) (a .password .now) (a .salt .now) (a .secret .now) (a .ad .now) (a .words .now) (i .initial-hash .ensures .result)
           (b .first-blocks .ensures)
           ∙ sym (left-new (answer s) (memory s) (a .words .now) (accepted e));
     }

@@ -17,7 +17,7 @@ returns c =
     password .before .feed-header .ensures
     ∙ ap (λ (s : State). feedAll s (header (a .params) (a .tag))) (password .before .before .begin .ensures .result) in
     let two = and-then _ _ _ (and-then _ _ _ fed (password .feed-counted .ensures)) (c .before .before .before .feed-counted2 .ensures) in
-    all-fed _ _ _ _ _ _ (and-then _ _ _ (and-then _ _ _ two (c .before .before .feed-counted3 .ensures)) (c .before .feed-counted4 .ensures)) (c .end .ensures .result)
+    record { result = all-fed _ _ _ _ _ _ (and-then _ _ _ (and-then _ _ _ two (c .before .before .feed-counted3 .ensures)) (c .before .feed-counted4 .ensures)) (c .end .ensures .result) }
 
 pub initial-hash-spec : {M : Type 1} → statement M
 initial-hash-spec =

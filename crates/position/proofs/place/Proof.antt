@@ -2,7 +2,7 @@
 use Prim.Native.Nat.{ℕ, _*_, _/_, _%_, _^_, _<_}
 use native.Mathlib.Omega.{arith}
 use borrow.Author.Needs.{needs}
-use Rattle.block.proofs.Mixing.{product-lt}
+use Rattle.word.proofs.Half.{product-lt}
 use Rattle.position.specs.Position.{place}
 use Rattle.position.proofs.place.Statement.{statement}
 use Rattle.position.proofs.place.Tie as tie

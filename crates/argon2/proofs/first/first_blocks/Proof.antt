@@ -1,4 +1,4 @@
--- `argon2::initial::first_blocks` meets its contract: after each turn, one lane more has its first blocks. Assumes nothing.
+-- `argon2::first::first_blocks` meets its contract: after each turn, one lane more has its first blocks. Assumes nothing.
 use Prim.Native.Nat.{ℕ, _-_, _≤_}
 use mathlib.Core.Path.{_≡_, refl, sym, ap, _∙_}
 use native.Mathlib.Numerals.{add-one}

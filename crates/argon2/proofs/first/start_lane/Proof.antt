@@ -1,4 +1,4 @@
--- `argon2::initial::start_lane` meets its contract: the two blocks are put, one after the other. Assumes nothing.
+-- `argon2::first::start_lane` meets its contract: the two blocks are put, one after the other. Assumes nothing.
 use Prim.Native.Nat.{ℕ, _*_}
 use mathlib.Core.List.{List}
 use mathlib.Core.Path.{_≡_}
@@ -36,7 +36,7 @@ returns c =
     let second = c .before .before .before in
     let first = second .before .before .before .before .before .before in
     both _ _ _ _ _ (first .before .before .before .lane-length .ensures .result) (first .before .in-memory .ensures .result) (second .before .in-memory2 .ensures .result)
-    (first .first-block-of .ensures) (second .first-block-of2 .ensures) (second .before .before .before .before .before .write-block .ensures) (c .before .before .write-block2 .ensures)
+    (first .first-words .ensures .result) (second .first-words2 .ensures .result) (second .before .before .before .before .before .write-block .ensures) (c .before .before .write-block2 .ensures)
 
 pub start-lane-spec : {M : Type 1} → statement M
 start-lane-spec =

@@ -19,7 +19,7 @@ returns c =
     let n = length (start .args .out .now) in
     hash .blake2b-long .ensures .output
     ∙ sym (if-accepted _ _ _ (sym (within _ n (λ e. omega (arith, start .pre .1)) (start .pre .2))))
-    ∙ ap (long n) (whole .bytes-of .ensures ∙ ap bytes (whole .before .last-blocks .ensures))
+    ∙ ap (long n) (whole .to-bytes .ensures .result ∙ ap bytes (whole .before .last-blocks .ensures))
 
 pub write-tag-spec : {M : Type 1} → statement M
 write-tag-spec =

@@ -4,7 +4,7 @@ use native.Mathlib.Nat.{le-of-lt, mul-le-mul-left}
 use native.Mathlib.Omega.{arith}
 use borrow.Author.Needs.{needs}
 use lib.Arith.{digits-lt}
-use Rattle.block.proofs.Mixing.{product-lt}
+use Rattle.word.proofs.Half.{product-lt}
 use Rattle.position.proofs.BlockNumber.in_memory.Statement.{statement}
 use Rattle.position.proofs.BlockNumber.in_memory.Tie as tie
 
