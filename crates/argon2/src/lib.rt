@@ -15,6 +15,8 @@ mod first;
 mod tag;
 
 use answer::Answer;
+use checks::Rule;
+use checks::WORDS;
 use checks::check_fill;
 use checks::check_start;
 use fill::fill_all;
@@ -85,7 +87,10 @@ pub fn hash_password_into_with_memory(
         (now (out .entry)) r (now (words .exit)) (now (out .exit)) ⌝ }
 {
     let n = out.len();
+    let rule = Rule::plain();
     let answer = check_start(
+        rule,
+        WORDS,
         params,
         n,
         password.len(),
@@ -114,7 +119,10 @@ pub fn fill_memory(
     ensures { λ r. ⌜ FillMemoryPromise params (now (password .entry)) (now (salt .entry)) (now (secret .entry)) (now (ad .entry)) (now (words .entry))
         r (now (words .exit)) ⌝ }
 {
+    let rule = Rule::plain();
     let answer = check_fill(
+        rule,
+        WORDS,
         params,
         password.len(),
         salt.len(),
@@ -142,7 +150,10 @@ pub fn start(
     ensures { λ r. ⌜ StartPromise params tag (now (password .entry)) (now (salt .entry)) (now (secret .entry)) (now (ad .entry)) (now (words .entry))
         r (now (words .exit)) ⌝ }
 {
+    let rule = Rule::plain();
     let answer = check_start(
+        rule,
+        WORDS,
         params,
         tag,
         password.len(),
