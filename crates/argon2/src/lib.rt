@@ -8,6 +8,8 @@ mod first;
 mod tag;
 
 use answer::Answer;
+use checks::Rule;
+use checks::WORDS;
 use checks::check_fill;
 use checks::check_start;
 use fill::fill_all;
@@ -39,7 +41,10 @@ pub fn hash_password_into_with_memory(
         (now (out .entry)) r (now (words .exit)) (now (out .exit)) ⌝ }
 {
     let n = out.len();
+    let rule = Rule::plain();
     let answer = check_start(
+        rule,
+        WORDS,
         params,
         n,
         password.len(),
@@ -70,7 +75,10 @@ pub fn fill_memory(
     ensures { λ r. ⌜ FillMemoryPromise params (now (password .entry)) (now (salt .entry)) (now (secret .entry)) (now (ad .entry)) (now (words .entry))
         r (now (words .exit)) ⌝ }
 {
+    let rule = Rule::plain();
     let answer = check_fill(
+        rule,
+        WORDS,
         params,
         password.len(),
         salt.len(),
@@ -100,7 +108,10 @@ pub fn start(
     ensures { λ r. ⌜ StartPromise params tag (now (password .entry)) (now (salt .entry)) (now (secret .entry)) (now (ad .entry)) (now (words .entry))
         r (now (words .exit)) ⌝ }
 {
+    let rule = Rule::plain();
     let answer = check_start(
+        rule,
+        WORDS,
         params,
         tag,
         password.len(),

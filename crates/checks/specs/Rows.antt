@@ -1,14 +1,15 @@
--- Document 01, "Answers": the rows of the calls. Lengths are numbers of bytes, or of words for the memory.
+-- Document 01, "Answers": the rows of the calls, over a rule. Lengths are numbers of bytes, or of words for the memory.
 use Prim.Native.Nat.{ℕ, _*_}
+use mathlib.Core.Bool.{Bool}
 use mathlib.Core.List.{List, [], _∷_, _++_}
-use lib.Dec.{ltb, eqb}
+use lib.Dec.{ltb}
 use Rattle.answer.specs.Answers.{Row, _when_, lengthRows}
-use Rattle.block.specs.Block.{blockWords}
-use Rattle.params.specs.Limits.{rows, blocks, minTag}
+use Rattle.params.specs.Limits.{v10, rowsFrom, blocks, minTag}
 use Rattle.params.specs.declared.Configured.{Configured}
 use Rattle.params.specs.declared.Configured.the-variants.{Absent, Length}
 use Rattle.params.specs.declared.Params.{Params}
 use Rattle.word.specs.Word.{maxLength}
+use Rattle.checks.specs.declared.Rule.{Rule}
 
 -- the most associated data, and the least salt
 abbrev pub maxData : ℕ
@@ -46,9 +47,12 @@ saltTooShort least salt = 14 when ltb salt least
 abbrev pub saltTooLong : ℕ → Row
 saltTooLong salt = 15 when ltb maxLength salt
 
--- 16: lent words under 128 · m'
-abbrev pub memoryTooLittle : Params → ℕ → Row
-memoryTooLittle P words = 16 when ltb words (blockWords * blocks P)
+-- 16: MemoryTooLittle: lent words under 128 · m'. The unit is how many a block has of what is lent: 128 words
+abbrev pub tooLittle : ℕ → Params → ℕ → Bool
+tooLittle unit P lent = ltb lent (unit * blocks P)
+
+abbrev pub memoryTooLittle : ℕ → Params → ℕ → Row
+memoryTooLittle unit P lent = 16 when tooLittle unit P lent
 
 -- 11 and 12
 abbrev pub outputRows : Configured → ℕ → List Row
@@ -59,15 +63,23 @@ abbrev pub extraRows : ℕ → ℕ → List Row
 extraRows secret ad = adTooLong ad ∷ secretTooLong secret ∷ []
 
 -- 13 to 16
-abbrev pub inputRows : Params → ℕ → ℕ → ℕ → List Row
-inputRows P password salt words =
-    pwdTooLong password ∷ saltTooShort minSalt salt ∷ saltTooLong salt ∷ memoryTooLittle P words ∷ []
+abbrev pub inputRows : ℕ → ℕ → Params → ℕ → ℕ → ℕ → List Row
+inputRows least unit P password salt lent =
+    pwdTooLong password ∷ saltTooShort least salt ∷ saltTooLong salt ∷ memoryTooLittle unit P lent ∷ []
+
+-- document 01's own rule: version 16 or 19, a salt of 8 bytes or more
+abbrev pub plain : Rule
+plain = record { oldest = v10; salt = minSalt }
 
 -- start and the whole hash check 1 to 16 in that order
-abbrev pub startRows : Params → ℕ → ℕ → ℕ → ℕ → ℕ → ℕ → List Row
-startRows P tag password salt secret ad words =
-    rows P ++ extraRows secret ad ++ outputRows (P .configured) tag ++ inputRows P password salt words
+abbrev pub startRows : Rule → ℕ → Params → ℕ → ℕ → ℕ → ℕ → ℕ → ℕ → List Row
+startRows rule unit P tag password salt secret ad lent =
+    rowsFrom (rule .oldest) P
+    ++ extraRows secret ad
+    ++ outputRows (P .configured) tag
+    ++ inputRows (rule .salt) unit P password salt lent
 
 -- fill_memory does the same without 11 and 12
-abbrev pub fillRows : Params → ℕ → ℕ → ℕ → ℕ → ℕ → List Row
-fillRows P password salt secret ad words = rows P ++ extraRows secret ad ++ inputRows P password salt words
+abbrev pub fillRows : Rule → ℕ → Params → ℕ → ℕ → ℕ → ℕ → ℕ → List Row
+fillRows rule unit P password salt secret ad lent =
+    rowsFrom (rule .oldest) P ++ extraRows secret ad ++ inputRows (rule .salt) unit P password salt lent

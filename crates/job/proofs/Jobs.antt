@@ -17,8 +17,10 @@ use Rattle.params.specs.Limits.{rows, slices, maxLanes, segment, blocks}
 use Rattle.params.specs.declared.Params.{Params}
 use Rattle.params.proofs.Within.{Within, params-within, two}
 use Rattle.position.specs.Position.{firstBlock}
-use Rattle.checks.specs.Rows.{outputRows}
-use Rattle.job.specs.Jobs.{all, position, tagAllowed, laidOut, complete, standsComplete, unfinished, standsInside, consistent, moved, nextSlice, settled, stepRows, finishRows}
+use Rattle.checks.specs.Rows.{mostTag, outputRows}
+use Rattle.checks.proofs.Tags.{output-fits}
+use Rattle.word.specs.Word.{maxLength}
+use Rattle.job.specs.Jobs.{all, position, tagAllowed, laidOut, complete, standsComplete, unfinished, standsInside, consistent, moved, nextSlice, onward, stepRows, finishRows}
 use Rattle.job.specs.declared.Job.{Job}
 use Rattle.job.proofs.Tests.{and-true, and-of, and-false, or-left, or-right, or-second, all-true, all-of, any-of, any-true}
 
@@ -238,6 +240,12 @@ finishing j n out e =
       length = omega (arith, ltb-false out (j .tag) (h .1 .1 .1 .0), ltb-false (j .tag) out (h .1 .1 .1 .1 .0));
     }
 
+-- an accepted output is one whose length 4 bytes count, where the configured length is
+pub finish-fits : (j : Job) (n out : ℕ) → mostTag (j .params .configured) ≤ maxLength → first (finishRows j n out) ≡ 0 → out ≤ maxLength
+finish-fits j n out h e =
+    let f = finishing j n out e in
+    omega (arith, f .length, output-fits (j .params .configured) (j .tag) h (f .complete .tag))
+
 pub finishing-accepted : (j : Job) (n out : ℕ) → Finishing j n out → first (finishRows j n out) ≡ 0
 finishing-accepted j n out h =
     let same = h .length in
@@ -306,15 +314,15 @@ moved-comm j a b n =
     ∙ ap (λ (v : ℕ). set (set q b (position j b + 1)) a (v + 1)) (sym (moved-other j b a n)) in
     λ i. record { params = j .params; tag = j .tag; pass = j .pass; slice = j .slice; positions = p i }
 
--- ---- the job once it settles
+-- ---- the job at the end of a slice
 
-pub settled-unfinished : (j : Job) → unfinished j ≡ true → settled j ≡ j
-unfolding settled
-settled-unfinished j e = ap (λ (t : Bool). cond t j (nextSlice j)) e
+pub onward-unfinished : (j : Job) → unfinished j ≡ true → onward j ≡ j
+unfolding onward
+onward-unfinished j e = ap (λ (t : Bool). cond t j (nextSlice j)) e
 
-pub settled-finished : (j : Job) → unfinished j ≡ false → settled j ≡ nextSlice j
-unfolding settled
-settled-finished j e = ap (λ (t : Bool). cond t j (nextSlice j)) e
+pub onward-finished : (j : Job) → unfinished j ≡ false → onward j ≡ nextSlice j
+unfolding onward
+onward-finished j e = ap (λ (t : Bool). cond t j (nextSlice j)) e
 
 pub zeros-at : (n i : ℕ) → _≡_ {A = ℕ} (getD (replicate n 0) i 0) 0
 zeros-at zero i = refl
@@ -389,17 +397,17 @@ next-stands j numbers tag below within = go (ltb (j .slice + 1) slices) refl (lt
 
 -- after an accepted step the job is inside filling, or filling is complete
 pub step-stands : (j : Job) (a : ℕ) → Inside j → a < j .params .lanes → position j a < segment (j .params)
-    → Inside (settled (moved j a)) ⊎ Complete (settled (moved j a))
+    → Inside (onward (moved j a)) ⊎ Complete (onward (moved j a))
 unfolding moved
 step-stands j a h la ua = go (unfinished (moved j a)) refl
   where
-    go : (t : Bool) → unfinished (moved j a) ≡ t → Inside (settled (moved j a)) ⊎ Complete (settled (moved j a))
+    go : (t : Bool) → unfinished (moved j a) ≡ t → Inside (onward (moved j a)) ⊎ Complete (onward (moved j a))
     go true t =
         let g : (i : ℕ) × (i < j .params .lanes) × (ltb (position (moved j a) i) (segment (j .params)) ≡ true) =
         any-true (j .params .lanes) (λ l. ltb (position (moved j a) l) (segment (j .params))) t in
         inl
-        (subst (λ (k : Job). Inside k) (sym (settled-unfinished (moved j a) t))
+        (subst (λ (k : Job). Inside k) (sym (onward-unfinished (moved j a) t))
         (moved-stays j a h la ua (g .0) (g .1) (ltb-true (position (moved j a) (g .0)) (segment (j .params)) (g .2))))
     go false t =
-        subst (λ (k : Job). Inside k ⊎ Complete k) (sym (settled-finished (moved j a) t))
+        subst (λ (k : Job). Inside k ⊎ Complete k) (sym (onward-finished (moved j a) t))
         (next-stands (moved j a) (h .numbers) (h .tag) (h .below) (h .within))

@@ -5,6 +5,7 @@ use mathlib.Core.List.{List, [], _∷_, _++_}
 use lib.Dec.{leb, ltb, eqb}
 use lib.ListN.{length, getD, set, replicate}
 use Rattle.answer.specs.Answers.{Row, _when_, first, lengthRows}
+use Rattle.block.specs.Block.{blockWords}
 use Rattle.params.specs.Limits.{rows, slices, maxLanes, segment}
 use Rattle.params.specs.declared.Configured.the-variants.{Absent}
 use Rattle.params.specs.declared.Params.{Params}
@@ -80,13 +81,13 @@ nextSlice j =
     }
 
 -- when the last lane reaches s the job moves at once to the next slice or pass
-unfoldable pub settled : Job → Job
-settled j = cond (unfinished j) j (nextSlice j)
+unfoldable pub onward : Job → Job
+onward j = cond (unfinished j) j (nextSlice j)
 
 -- the job that an accepted start hands back: each lane at block 2; with s = 2 it is at slice 1
 unfoldable pub startJob : Params → ℕ → Job
 startJob P tag =
-    settled
+    onward
     (record {
       params = P;
       tag = tag;
@@ -128,9 +129,9 @@ notComplete j = 21 when not (complete j)
 
 -- step checks 17, 16, 18, 19, 20
 abbrev pub stepRows : Job → ℕ → ℕ → List Row
-stepRows j words l = jobInvalid j ∷ memoryTooLittle (j .params) words ∷ fillingComplete j ∷ noSuchLane j l ∷ laneFinished j l ∷ []
+stepRows j words l = jobInvalid j ∷ memoryTooLittle blockWords (j .params) words ∷ fillingComplete j ∷ noSuchLane j l ∷ laneFinished j l ∷ []
 
 -- finish checks 17, 16, 21, 11, 12, the last two by the tag length that the job was started with
 abbrev pub finishRows : Job → ℕ → ℕ → List Row
 finishRows j words out =
-    jobInvalid j ∷ memoryTooLittle (j .params) words ∷ notComplete j ∷ lengthRows (j .tag) (j .tag) out
+    jobInvalid j ∷ memoryTooLittle blockWords (j .params) words ∷ notComplete j ∷ lengthRows (j .tag) (j .tag) out

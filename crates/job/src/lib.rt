@@ -1,17 +1,16 @@
 // Document 01's job: the accepted numbers, the place in the filling and one position for each lane.
 ghost use lib.Dec.{leb, ltb};
 ghost use lib.ListN.{getD, replicate};
-ghost use mathlib.Core.Bool.{true, _&&_, _||_};
+ghost use mathlib.Core.Bool.{_&&_, _||_};
 ghost use mathlib.Core.List.{_++_};
 ghost use mathlib.Core.Path.{_≡_};
 ghost use Prim.Native.Nat.{_-_, _<_, _≤_};
-ghost use Rattle.answer.specs.Answers.{number, first, ifAccepted};
-ghost use Rattle.params.specs.Limits.{maxLanes, slices, rows, segment};
+ghost use Rattle.params.specs.Limits.{maxLanes, slices, segment};
 ghost use Rattle.job.specs.Jobs as spec;
-ghost use Rattle.job.specs.Promises.{ZerosPromise};
-ghost use Rattle.word.specs.Word.{maxLength};
+ghost use Rattle.job.specs.Promises.{ZerosPromise, JobStartPromise, ConsistentPromise, PositionPromise, CheckStepPromise, CheckFinishPromise, AfterPromise};
 use answer::Answer;
 use answer::check_length;
+use checks::WORDS;
 use checks::check_output;
 use checks::too_little;
 use params::Configured;
@@ -102,7 +101,7 @@ impl Job {
 
     // Whether its tag length is one that its numbers allow.
     fn tag_allowed(self) -> bool
-        ensures { λ r. ⌜ (r ≡ spec.tagAllowed self) × (r ≡ true → self .tag ≤ maxLength) ⌝ }
+        ensures { λ r. ⌜ r ≡ spec.tagAllowed self ⌝ }
     {
         let params = self.params;
         let configured = params.configured;
@@ -162,7 +161,7 @@ impl Job {
 
     // Whether its numbers pass rows 1 to 8, its tag length is one they allow, lanes not in use stand at 0, and it stands complete or inside.
     pub fn consistent(self) -> bool
-        ensures { λ r. ⌜ (r ≡ spec.consistent self) × (r ≡ true → self .tag ≤ maxLength) ⌝ }
+        ensures { λ r. ⌜ ConsistentPromise self r ⌝ }
     {
         let params = self.params;
         if params.check().number() != 0 {
@@ -173,7 +172,7 @@ impl Job {
 
     // The block of a lane's segment that comes next; 0 for a lane past the array.
     pub fn position(self, lane: LaneNumber) -> u32
-        ensures { λ r. ⌜ r ≡ spec.position self (lane .0) ⌝ }
+        ensures { λ r. ⌜ PositionPromise self (lane .0) r ⌝ }
     {
         let positions = self.positions;
         let at = lane.0 as usize;
@@ -185,13 +184,13 @@ impl Job {
 
     // The first of rows 17, 16, 18, 19 and 20 that holds.
     pub fn check_step(self, words: usize, lane: LaneNumber) -> Answer
-        ensures { λ r. ⌜ number r ≡ first (spec.stepRows self words (lane .0)) ⌝ }
+        ensures { λ r. ⌜ CheckStepPromise self words (lane .0) r ⌝ }
     {
         let params = self.params;
         if !self.consistent() {
             return Answer::Inconsistent;
         }
-        if too_little(params, words) {
+        if too_little(WORDS, params, words) {
             return Answer::MemoryTooLittle;
         }
         if self.complete() {
@@ -208,13 +207,13 @@ impl Job {
 
     // The first of rows 17, 16, 21, 11 and 12 that holds, for an output of n bytes.
     pub fn check_finish(self, words: usize, n: usize) -> Answer
-        ensures { λ r. ⌜ (number r ≡ first (spec.finishRows self words n)) × (number r ≡ 0 → n ≤ maxLength) ⌝ }
+        ensures { λ r. ⌜ CheckFinishPromise self words n r ⌝ }
     {
         let params = self.params;
         if !self.consistent() {
             return Answer::Inconsistent;
         }
-        if too_little(params, words) {
+        if too_little(WORDS, params, words) {
             return Answer::MemoryTooLittle;
         }
         if !self.complete() {
@@ -251,9 +250,9 @@ impl Job {
     }
 
     // The job, moved at once to the next slice or pass if its last lane has reached the segment's end.
-    fn settled(self) -> Job
+    fn onward(self) -> Job
         requires { ⌜ (self .params .lanes ≤ maxLanes) × (self .slice < slices) × (self .pass < self .params .passes) ⌝ }
-        ensures { λ r. ⌜ r ≡ spec.settled self ⌝ }
+        ensures { λ r. ⌜ r ≡ spec.onward self ⌝ }
     {
         if self.unfinished() {
             return self;
@@ -263,20 +262,19 @@ impl Job {
 
     // The answer to a step of a lane, with so many words lent, and the job after it: the job itself, where the step is refused.
     pub fn after(self, words: usize, lane: LaneNumber) -> Stepped
-        ensures { λ r. ⌜ (number (r .answer) ≡ first (spec.stepRows self words (lane .0)))
-            × (r .job ≡ ifAccepted (first (spec.stepRows self words (lane .0))) (spec.settled (spec.moved self (lane .0))) self) ⌝ }
+        ensures { λ r. ⌜ AfterPromise self words (lane .0) r ⌝ }
     {
         let answer = self.check_step(words, lane);
         if answer.number() != 0 {
             return Stepped { answer, job: self };
         }
-        let job = self.moved(lane).settled();
+        let job = self.moved(lane).onward();
         Stepped { answer, job }
     }
 
     // The job before the first step; a job of zeros for parameters that rows 1 to 8 refuse.
     pub fn start(params: Params, tag: usize) -> Job
-        ensures { λ r. ⌜ r ≡ ifAccepted (first (rows params)) (spec.startJob params tag) spec.zeroJob ⌝ }
+        ensures { λ r. ⌜ JobStartPromise params tag r ⌝ }
     {
         if params.check().number() != 0 {
             return Job::zeros();
@@ -289,6 +287,6 @@ impl Job {
             slice: 0,
             positions,
         };
-        job.settled()
+        job.onward()
     }
 }

@@ -5,9 +5,10 @@ use mathlib.Core.Path.{_≡_, sym, _∙_}
 use native.Mathlib.Omega.{arith}
 use lib.ListN.{length}
 use borrow.Author.Needs.{needs}
-use Rattle.answer.specs.Answers.{first}
+use Rattle.answer.specs.Answers.{number, first}
 use Rattle.answer.proofs.Answered.{left-new, left-old}
-use Rattle.checks.specs.Rows.{fillRows}
+use Rattle.block.specs.Block.{blockWords}
+use Rattle.checks.specs.Rows.{plain, fillRows}
 use Rattle.argon2.specs.Argon2.{filled}
 use Rattle.argon2.specs.Calls.{memoryFilled}
 use Rattle.argon2.specs.Inner.{Lent}
@@ -21,16 +22,20 @@ use Rattle.argon2.proofs.fill_memory.Tie as tie
 abbrev answer : tie.Start → ℕ
 answer s =
     let a = s .args in
-    first (fillRows (a .params) (length (a .password .now)) (length (a .salt .now)) (length (a .secret .now)) (length (a .ad .now)) (length (a .words .now)))
+    first (fillRows plain blockWords (a .params) (length (a .password .now)) (length (a .salt .now)) (length (a .secret .now)) (length (a .ad .now)) (length (a .words .now)))
 
 abbrev memory : tie.Start → List ℕ
 memory s = let a = s .args in filled (a .params) 0 (a .password .now) (a .salt .now) (a .secret .now) (a .ad .now) (a .words .now)
 
 abbrev entry : tie.Else1 → tie.Start
-entry c = c .before .before .before .before .before .before .before .before
+entry c = c .before .before .before .before .before .before .before .before .before
 
-numbered : (c : tie.After-number) → c .number .result ≡ answer (c .before .before .before .before .before .before .before)
-numbered c = c .number .ensures .result ∙ c .before .check-fill .ensures
+-- the check's answer, by document 01's rule
+checked : (c : tie.After-check-fill) → number (c .check-fill .result) ≡ answer (c .before .before .before .before .before .before .before)
+checked c = rw (c .before .plain .ensures .result) at (c .check-fill .ensures .answer)
+
+numbered : (c : tie.After-number) → c .number .result ≡ answer (c .before .before .before .before .before .before .before .before)
+numbered c = c .number .ensures .result ∙ checked (c .before)
 
 accepted : (c : tie.Else1) → answer (entry c) ≡ 0
 accepted c = omega (arith, numbered (c .before), c .if1 .left)
@@ -38,10 +43,10 @@ accepted c = omega (arith, numbered (c .before), c .if1 .left)
 returns : tie.Need-returns
 unfolding memoryFilled
 returns c =
-    let s = c .before .before .before .before .before .before .before .before in
+    let s = c .before .before .before .before .before .before .before .before .before in
     let refused : answer s ≡ 0 → ⊥ = λ z. c .if1 .taken (numbered (c .before) ∙ z) in
     record {
-      answer = c .before .before .check-fill .ensures;
+      answer = checked (c .before .before);
       memory = sym (left-old (answer s) (memory s) (s .args .words .now) refused);
     }
 
@@ -67,7 +72,7 @@ returns-2 c =
     let s = entry e in
     let a = s .args in
     record {
-      answer = e .before .before .check-fill .ensures;
+      answer = checked (e .before .before);
       memory =
           completed (a .params) 0 (a .password .now) (a .salt .now) (a .secret .now) (a .ad .now) (a .words .now) (i .initial-hash .ensures .result)
           (b .first-blocks .ensures) (f .fill-all .ensures)
@@ -78,6 +83,7 @@ pub fill-memory-spec : {M : Type 1} → statement M
 fill-memory-spec =
     tie.close
     (tie.spec
+    (λ c κs. search needs)
     (λ c κs. search needs)
     (λ c κs. search needs)
     returns

@@ -6,9 +6,12 @@ use mathlib.Core.Path.{_≡_, sym, ap, _∙_}
 use native.Mathlib.Omega.{arith}
 use lib.ListN.{length}
 use borrow.Author.Needs.{needs}
-use Rattle.answer.specs.Answers.{first}
+use Rattle.answer.specs.Answers.{number, first}
 use Rattle.answer.proofs.Answered.{left-new, left-old}
-use Rattle.checks.specs.Rows.{startRows}
+use Rattle.block.specs.Block.{blockWords}
+use Rattle.checks.specs.Rows.{plain, startRows}
+use Rattle.checks.proofs.Tags.{held-fits, start-fits}
+use Rattle.word.specs.Word.{maxLength}
 use Rattle.argon2.specs.Argon2.{tagOf, filled}
 use Rattle.argon2.specs.Calls.{hashed}
 use Rattle.argon2.specs.Inner.{Lent}
@@ -22,7 +25,7 @@ use Rattle.argon2.proofs.hash_password_into_with_memory.Tie as tie
 abbrev answer : tie.Start → ℕ
 answer s =
     let a = s .args in
-    first (startRows (a .params) (length (a .out .now)) (length (a .password .now)) (length (a .salt .now)) (length (a .secret .now)) (length (a .ad .now)) (length (a .words .now)))
+    first (startRows plain blockWords (a .params) (length (a .out .now)) (length (a .password .now)) (length (a .salt .now)) (length (a .secret .now)) (length (a .ad .now)) (length (a .words .now)))
 
 abbrev memory : tie.Start → List ℕ
 memory s =
@@ -33,10 +36,14 @@ abbrev output : tie.Start → List ℕ
 output s = tagOf (s .args .params) (length (s .args .out .now)) (memory s)
 
 abbrev entry : tie.Else1 → tie.Start
-entry c = c .before .before .before .before .before .before .before .before .before
+entry c = c .before .before .before .before .before .before .before .before .before .before
 
-numbered : (c : tie.After-number) → c .number .result ≡ answer (c .before .before .before .before .before .before .before .before)
-numbered c = c .number .ensures .result ∙ c .before .check-start .ensures .0
+-- the check's answer, by document 01's rule
+checked : (c : tie.After-check-start) → number (c .check-start .result) ≡ answer (c .before .before .before .before .before .before .before .before)
+checked c = rw (c .before .plain .ensures .result) at (c .check-start .ensures .answer)
+
+numbered : (c : tie.After-number) → c .number .result ≡ answer (c .before .before .before .before .before .before .before .before .before)
+numbered c = c .number .ensures .result ∙ checked (c .before)
 
 accepted : (c : tie.Else1) → answer (entry c) ≡ 0
 accepted c = omega (arith, numbered (c .before), c .if1 .left)
@@ -44,10 +51,10 @@ accepted c = omega (arith, numbered (c .before), c .if1 .left)
 returns : tie.Need-returns
 unfolding hashed
 returns c =
-    let s = c .before .before .before .before .before .before .before .before .before in
+    let s = c .before .before .before .before .before .before .before .before .before .before in
     let refused : answer s ≡ 0 → ⊥ = λ z. c .if1 .taken (numbered (c .before) ∙ z) in
     record {
-      answer = c .before .before .check-start .ensures .0;
+      answer = checked (c .before .before);
       memory = sym (left-old (answer s) (memory s) (s .args .words .now) refused);
       output = sym (left-old (answer s) (output s) (s .args .out .now) refused);
     }
@@ -64,6 +71,12 @@ some c =
     start-some (a .params) (length (a .password .now)) (length (a .salt .now)) (length (a .secret .now)) (length (a .ad .now)) (length (a .words .now))
     (length (a .out .now)) (accepted c)
 
+fits : (c : tie.Else1) → length (entry c .args .out .now) ≤ maxLength
+fits c =
+    let a = entry c .args in
+    start-fits plain blockWords (a .params) (length (a .out .now)) (length (a .password .now)) (length (a .salt .now)) (length (a .secret .now)) (length (a .ad .now))
+    (length (a .words .now)) (held-fits (a .params .configured) (entry c .good .0 .1 .1 .1 .1 .1 .1 .1 .0)) (accepted c)
+
 first-blocks-requires : tie.Need-first-blocks-requires
 first-blocks-requires c κs = lent (c .before .before)
 
@@ -75,7 +88,7 @@ write-tag-requires c κs =
     let e = c .before .before .before .before .before .before .before .before .before .before .before in (
       lent-as (lent e) (search needs),
       some e,
-      e .before .before .check-start .ensures .1 (sym (e .before .number .ensures .result) ∙ e .if1 .left),
+      fits e,
     )
 
 returns-2 : tie.Need-returns-2
@@ -92,7 +105,7 @@ returns-2 c =
     completed (a .params) (length (a .out .now)) (a .password .now) (a .salt .now) (a .secret .now) (a .ad .now) (a .words .now)
     (i .initial-hash .ensures .result) (b .first-blocks .ensures) (f .fill-all .ensures) in
     record {
-      answer = e .before .before .check-start .ensures .0;
+      answer = checked (e .before .before);
       memory = filling ∙ sym (left-new (answer s) (memory s) (a .words .now) (accepted e));
       output =
           t .write-tag .ensures
@@ -104,6 +117,7 @@ pub hash-password-into-with-memory-spec : {M : Type 1} → statement M
 hash-password-into-with-memory-spec =
     tie.close
     (tie.spec
+    (λ c κs. search needs)
     (λ c κs. search needs)
     (λ c κs. search needs)
     returns

@@ -15,7 +15,7 @@ use Rattle.argon2.proofs.step.Tie as tie
 
 -- the number of the answer
 numbered : (c : tie.After-number) → let a = c .before .before .before .args in c .number .result ≡ first (stepRows (a .job) (length (a .words .now)) (a .lane .0))
-numbered c = c .number .ensures .result ∙ c .before .after .ensures .0
+numbered c = c .number .ensures .result ∙ c .before .after .ensures .answer
 
 accepted : (c : tie.Else1) → let a = c .before .before .before .before .args in first (stepRows (a .job) (length (a .words .now)) (a .lane .0)) ≡ 0
 accepted c = omega (arith, numbered (c .before), c .if1 .left)
@@ -32,8 +32,8 @@ returns c =
     let n = first (stepRows (a .job) (length (a .words .now)) (a .lane .0)) in
     let refused : n ≡ 0 → ⊥ = λ e. c .if1 .taken (numbered (c .before) ∙ e) in
     record {
-      answer = c .before .before .after .ensures .0;
-      job = c .before .before .after .ensures .1;
+      answer = c .before .before .after .ensures .answer;
+      job = c .before .before .after .ensures .job;
       memory = sym (left-old n (fill (a .job .params) (a .job .pass) (a .job .slice) (a .lane .0) (position (a .job) (a .lane .0)) (a .words .now)) (a .words .now) refused);
     }
 
@@ -41,7 +41,7 @@ fill-block-requires : tie.Need-fill-block-requires
 fill-block-requires c κs =
     let r = is-ready (c .before .before .before) in
     let a = c .before .before .before .before .before .before .before .args in
-    let at = c .before .position .ensures in
+    let at = c .before .position .ensures .result in
     record {
       of =
           record {
@@ -63,11 +63,11 @@ returns-2 c =
     let n = first (stepRows (a .job) (length (a .words .now)) (a .lane .0)) in
     let filled = fill (a .job .params) (a .job .pass) (a .job .slice) (a .lane .0) (position (a .job) (a .lane .0)) (a .words .now) in
     record {
-      answer = e .before .before .after .ensures .0;
-      job = e .before .before .after .ensures .1;
+      answer = e .before .before .after .ensures .answer;
+      job = e .before .before .after .ensures .job;
       memory =
           f .fill-block .ensures
-          ∙ ap (λ (k : ℕ). fill (a .job .params) (a .job .pass) (a .job .slice) (a .lane .0) k (a .words .now)) (f .before .before .position .ensures)
+          ∙ ap (λ (k : ℕ). fill (a .job .params) (a .job .pass) (a .job .slice) (a .lane .0) k (a .words .now)) (f .before .before .position .ensures .result)
           ∙ sym (left-new n filled (a .words .now) (accepted e));
     }
 

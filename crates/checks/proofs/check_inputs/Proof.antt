@@ -12,7 +12,7 @@ returns-4 c =
       le-ltb _ _ (d .before .before .if1 .left),
       le-ltb _ _ (d .before .if2 .left),
       le-ltb _ _ (d .if3 .left),
-      sym (c .before .too-little .ensures) ∙ c .if4 .taken,
+      sym (c .before .too-little .ensures .result) ∙ c .if4 .taken,
     )
 
 returns-5 : tie.Need-returns-5
@@ -22,7 +22,7 @@ returns-5 c =
       le-ltb _ _ (d .before .before .if1 .left),
       le-ltb _ _ (d .before .if2 .left),
       le-ltb _ _ (d .if3 .left),
-      sym (c .before .too-little .ensures) ∙ c .if4 .left,
+      sym (c .before .too-little .ensures .result) ∙ c .if4 .left,
     )
 
 pub check-inputs-spec : {M : Type 1} → statement M

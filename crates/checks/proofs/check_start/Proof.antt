@@ -1,9 +1,7 @@
 -- `checks::check_start` meets its contract: rows 1 to 8, 9 and 10, 11 and 12, 13 to 16, joined part by part. Assumes nothing.
 use mathlib.Core.List.{_++_}
-use mathlib.Core.Path.{sym, _∙_}
 use borrow.Author.Needs.{needs}
-use Rattle.answer.proofs.Rows.{passed, accepted, passed-front, passed-back}
-use Rattle.params.specs.Limits.{rows}
+use Rattle.params.specs.Limits.{rowsFrom}
 use Rattle.checks.specs.Rows.{extraRows, outputRows, inputRows}
 use Rattle.answer.proofs.Answered.{joined}
 use Rattle.checks.proofs.check_start.Statement.{statement}
@@ -15,23 +13,19 @@ returns c =
     let e = o .before .before in
     let a = e .before .before .args in
     let P = a .params in
+    let numbers = rowsFrom (a .rule .oldest) P in
     let extra = extraRows (a .secret) (a .ad) in
     let output = outputRows (P .configured) (a .tag) in
-    let inputs = inputRows P (a .password) (a .salt) (a .words) in
-    let whole =
-    joined (rows P ++ extra ++ output) inputs tt
-    (joined (rows P ++ extra) output tt
-    (joined (rows P) extra tt (e .before .check .ensures .answer) (e .check-extra .ensures) (o .before .first-of .ensures))
-    (o .check-output .ensures .0)
-    (c .before .before .first-of2 .ensures))
-    (c .before .check-inputs .ensures)
-    (c .first-of3 .ensures) in (
-      whole,
-      λ z.
-          let all = passed (rows P ++ extra ++ output ++ inputs) tt (sym whole ∙ z) in
-          let of-output = accepted output (passed-back (rows P ++ extra) output (passed-front (rows P ++ extra ++ output) inputs all)) in
-          o .check-output .ensures .1 (o .check-output .ensures .0 ∙ of-output),
-    )
+    record {
+      answer =
+          joined (numbers ++ extra ++ output) (inputRows (a .rule .salt) (a .unit) P (a .password) (a .salt) (a .lent)) tt
+          (joined (numbers ++ extra) output tt
+          (joined numbers extra tt (e .before .check-from .ensures .answer) (e .check-extra .ensures) (o .before .first-of .ensures))
+          (o .check-output .ensures .answer)
+          (c .before .before .first-of2 .ensures))
+          (c .before .check-inputs .ensures)
+          (c .first-of3 .ensures);
+    }
 
 pub check-start-spec : {M : Type 1} → statement M
 check-start-spec =

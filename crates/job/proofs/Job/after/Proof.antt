@@ -4,14 +4,14 @@ use native.Mathlib.Omega.{arith}
 use borrow.Author.Needs.{needs}
 use Rattle.answer.specs.Answers.{first}
 use Rattle.answer.proofs.Answered.{left-new, left-old}
-use Rattle.job.specs.Jobs.{moved, settled, stepRows}
+use Rattle.job.specs.Jobs.{moved, onward, stepRows}
 use Rattle.job.proofs.Jobs.{Ready, ready, inside-bounds}
 use Rattle.job.proofs.Job.after.Statement.{statement}
 use Rattle.job.proofs.Job.after.Tie as tie
 
 -- the number of the answer
 numbered : (c : tie.After-number) → let a = c .before .before .args in c .number .result ≡ first (stepRows (a .self) (a .words) (a .lane .0))
-numbered c = c .number .ensures .result ∙ c .before .check-step .ensures
+numbered c = c .number .ensures .result ∙ c .before .check-step .ensures .answer
 
 accepted : (c : tie.Else1) → let a = c .before .before .before .args in first (stepRows (a .self) (a .words) (a .lane .0)) ≡ 0
 accepted c = omega (arith, numbered (c .before), c .if1 .left)
@@ -22,19 +22,20 @@ is-ready c = let a = c .before .before .before .args in ready (a .self) (a .word
 returns : tie.Need-returns
 returns c =
     let a = c .before .before .before .args in
-    let n = first (stepRows (a .self) (a .words) (a .lane .0)) in (
-      c .before .before .check-step .ensures,
-      sym (left-old n (settled (moved (a .self) (a .lane .0))) (a .self) (λ e. c .if1 .taken (numbered (c .before) ∙ e))),
-    )
+    let n = first (stepRows (a .self) (a .words) (a .lane .0)) in
+    record {
+      answer = c .before .before .check-step .ensures .answer;
+      job = sym (left-old n (onward (moved (a .self) (a .lane .0))) (a .self) (λ e. c .if1 .taken (numbered (c .before) ∙ e)));
+    }
 
 moved-requires : tie.Need-moved-requires
 moved-requires c κs =
     let r = is-ready c in
     (omega (arith, inside-bounds (r .inside) .few-lanes, r .lane), r .under)
 
-settled-requires : tie.Need-settled-requires
+onward-requires : tie.Need-onward-requires
 unfolding moved
-settled-requires c κs =
+onward-requires c κs =
     let r = is-ready (c .before) in
     rw (c .moved .ensures) (inside-bounds (r .inside) .few-lanes, r .inside .within, r .inside .below)
 
@@ -43,12 +44,13 @@ returns-2 c =
     let e = c .before .before in
     let a = e .before .before .before .args in
     let n = first (stepRows (a .self) (a .words) (a .lane .0)) in
-    let next = settled (moved (a .self) (a .lane .0)) in (
-      e .before .before .check-step .ensures,
-      c .settled .ensures ∙ ap settled (c .before .moved .ensures) ∙ sym (left-new n next (a .self) (accepted e)),
-    )
+    let next = onward (moved (a .self) (a .lane .0)) in
+    record {
+      answer = e .before .before .check-step .ensures .answer;
+      job = c .onward .ensures ∙ ap onward (c .before .moved .ensures) ∙ sym (left-new n next (a .self) (accepted e));
+    }
 
 pub after-spec : {M : Type 1} → statement M
 after-spec =
     tie.close
-    (tie.spec (λ c κs. search needs) (λ c κs. search needs) returns moved-requires settled-requires returns-2)
+    (tie.spec (λ c κs. search needs) (λ c κs. search needs) returns moved-requires onward-requires returns-2)

@@ -1,6 +1,5 @@
 -- `job::Job::consistent` meets its contract: rows 1 to 8 first, since they bound the lanes; then the parts of the test. Assumes nothing.
 use Prim.Native.Nat.{_≤_}
-use mathlib.Core.Bool.{_&&_, false≢true}
 use mathlib.Core.Path.{_≡_, sym, _∙_}
 use borrow.Author.Needs.{needs}
 use borrow.Author.Tests.{eq-eqb, ne-eqb}
@@ -8,7 +7,6 @@ use Rattle.answer.specs.Answers.{first}
 use Rattle.params.specs.Limits.{rows, maxLanes}
 use Rattle.params.proofs.Within.{params-within}
 use Rattle.job.specs.Jobs.{consistent}
-use Rattle.job.proofs.Tests.{and-true}
 use Rattle.job.proofs.Job.consistent.Statement.{statement}
 use Rattle.job.proofs.Job.consistent.Tie as tie
 
@@ -22,23 +20,23 @@ returns : tie.Need-returns
 unfolding consistent
 returns c =
     let n = c .before .number .ensures .result ∙ c .before .before .check .ensures .answer in
-    (rw (ne-eqb (first (rows (c .before .before .before .before .args .self .params))) 0 (λ e. c .if1 .taken (n ∙ e))), λ t. absurd (false≢true t))
+    record { result = rw (ne-eqb (first (rows (c .before .before .before .before .args .self .params))) 0 (λ e. c .if1 .taken (n ∙ e))) }
 
 returns-2 : tie.Need-returns-2
 unfolding consistent
 returns-2 c =
     let o = c .before .before in
     let a = o .before .before in
-    let t = o .before .tag-allowed .result in (
-      rw (
-        eq-eqb (first (rows (a .before .before .before .before .args .self .params))) 0 (accepted a),
-        o .before .tag-allowed .ensures .0,
-        o .laid-out .ensures,
-        c .before .stands-complete .ensures,
-        c .stands-inside .ensures,
-      ),
-      λ e. o .before .tag-allowed .ensures .1 (and-true t (o .laid-out .result) (and-true (t && o .laid-out .result) _ e .0) .0),
-    )
+    record {
+      result =
+          rw (
+            eq-eqb (first (rows (a .before .before .before .before .args .self .params))) 0 (accepted a),
+            o .before .tag-allowed .ensures,
+            o .laid-out .ensures,
+            c .before .stands-complete .ensures,
+            c .stands-inside .ensures,
+          );
+    }
 
 pub consistent-spec : {M : Type 1} → statement M
 consistent-spec =

@@ -13,7 +13,9 @@ places c = search needs
 returns : tie.Need-returns
 returns c =
     let s = c .before .before .before in
-    sym (List·getD-eq-default (s .args .self .positions) 0 {n = s .args .lane .0} (omega (arith, places s, c .if1 .taken)))
+    record {
+      result = sym (List·getD-eq-default (s .args .self .positions) 0 {n = s .args .lane .0} (omega (arith, places s, c .if1 .taken)));
+    }
 
 pub position-spec : {M : Type 1} → statement M
 position-spec =

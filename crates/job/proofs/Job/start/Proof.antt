@@ -9,7 +9,7 @@ use Rattle.answer.specs.Answers.{first}
 use Rattle.params.specs.Limits.{rows, maxLanes}
 use Rattle.params.proofs.Within.{params-within}
 use Rattle.answer.proofs.Answered.{left-new, left-old}
-use Rattle.job.specs.Jobs.{settled, startJob, zeroJob}
+use Rattle.job.specs.Jobs.{onward, startJob, zeroJob}
 use Rattle.job.proofs.Job.start.Statement.{statement}
 use Rattle.job.proofs.Job.start.Tie as tie
 
@@ -24,35 +24,38 @@ returns : tie.Need-returns
 returns c =
     let e = c .before in
     let a = e .before .before .before .args in
-    c .zeros .ensures .result
-    ∙ sym (left-old (first (rows (a .params))) (startJob (a .params) (a .tag)) zeroJob (λ z. e .if1 .taken (numbered (e .before) ∙ z)))
+    record {
+      result =
+          c .zeros .ensures .result
+          ∙ sym (left-old (first (rows (a .params))) (startJob (a .params) (a .tag)) zeroJob (λ z. e .if1 .taken (numbered (e .before) ∙ z)));
+    }
 
 positions-at-requires : tie.Need-positions-at-requires
 positions-at-requires c κs =
     let e = c .before in
     params-within (e .before .before .before .args .params) (accepted e) .few-lanes
 
-settled-requires : tie.Need-settled-requires
-settled-requires c κs =
+onward-requires : tie.Need-onward-requires
+onward-requires c κs =
     let e = c .before .before in
     let w = params-within (e .before .before .before .args .params) (accepted e) in
     (w .few-lanes, omega arith, omega (arith, w .some-passes))
 
-begun : (c : tie.After-settled) → let a = c .before .before .before .before .before .before .args in c .settled .result ≡ startJob (a .params) (a .tag)
+begun : (c : tie.After-onward) → let a = c .before .before .before .before .before .before .args in c .onward .result ≡ startJob (a .params) (a .tag)
 unfolding startJob
 begun c =
     let a = c .before .before .before .before .before .before .args in
     let p = a .params .lanes in
     let at : c .before .positions-at .result ≡ _ =
     c .before .positions-at .ensures ∙ ap (λ (b : ℕ). replicate p b ++ replicate (maxLanes - p) 0) (c .before .before .first-block .ensures .result) in
-    c .settled .ensures
-    ∙ ap (λ (l : List ℕ). settled (record { params = a .params; tag = a .tag; pass = 0; slice = 0; positions = l })) at
+    c .onward .ensures
+    ∙ ap (λ (l : List ℕ). onward (record { params = a .params; tag = a .tag; pass = 0; slice = 0; positions = l })) at
 
 returns-2 : tie.Need-returns-2
 returns-2 c =
     let e = c .before .before .before in
     let a = e .before .before .before .args in
-    begun c ∙ sym (left-new (first (rows (a .params))) (startJob (a .params) (a .tag)) zeroJob (accepted e))
+    record { result = begun c ∙ sym (left-new (first (rows (a .params))) (startJob (a .params) (a .tag)) zeroJob (accepted e)) }
 
 pub start-spec : {M : Type 1} → statement M
 start-spec =
@@ -64,5 +67,5 @@ start-spec =
     returns
     (λ c κs. search needs)
     positions-at-requires
-    settled-requires
+    onward-requires
     returns-2)
