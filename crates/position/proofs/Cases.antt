@@ -9,7 +9,7 @@ use borrow.Author.Tests.{eq-eqb}
 use Rattle.params.specs.Limits.{slices, segment, segmentLength, blocks}
 use Rattle.params.specs.declared.Params.{Params}
 use Rattle.position.specs.Address.{addressCounter, addressPlace}
-use Rattle.position.specs.Position.{referenceLane, finished, area, place, start, referenceColumn}
+use Rattle.position.specs.Position.{referenceLane, finishedLength, area, place, areaStart, referenceColumn}
 
 pub record PositionCases : Type 0 where
   -- P1: m = 8, p = 1 gives s = 2, m' = 8
@@ -42,7 +42,7 @@ pub record PositionCases : Type 0 where
   pub p10-next : (addressCounter 128 ≡ 2) × (addressPlace 128 ≡ 0)
 
 one-block : (s : ℕ) → area s 0 0 2 true ≡ 1
-unfolding area finished
+unfolding area finishedLength
 one-block s = omega arith
 
 -- an area of one block has one place
@@ -50,8 +50,8 @@ one-place : (x : ℕ) → place 1 x ≡ 0
 unfolding place
 one-place x = omega arith
 
-from-zero : (s : ℕ) → start s 0 0 ≡ 0
-unfolding start
+from-zero : (s : ℕ) → areaStart s 0 0 ≡ 0
+unfolding areaStart
 from-zero s = refl
 
 block-zero : (p s l x : ℕ) → referenceColumn p s 0 0 l 2 x ≡ 0
@@ -59,7 +59,7 @@ unfolding referenceColumn referenceLane
 block-zero p s l x = rw (eq-eqb l l refl, one-block s, one-place x, from-zero s) (zero-mod (slices * s))
 
 pub cases : PositionCases
-unfolding segmentLength finished area place start referenceLane referenceColumn
+unfolding segmentLength finishedLength area place areaStart referenceLane referenceColumn
 cases =
     record {
       p1-segment = λ P m p. rw (m, p);

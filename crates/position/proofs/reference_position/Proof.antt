@@ -5,9 +5,10 @@ use borrow.Author.Needs.{needs}
 use borrow.Author.Tests.{not-true, not-false}
 use Rattle.answer.specs.Answers.{number, first}
 use Rattle.params.specs.Limits.{costRows, segmentLength}
-use Rattle.params.proofs.Within.{Within, within, segment-most}
+use Rattle.params.proofs.Within.{Within, within, two, segment-most}
 use Rattle.position.specs.Position.{referenceColumn}
 use Rattle.position.proofs.Accepted.{Filled, filled, refuses-costs, refuses-position, accepts}
+use Rattle.position.proofs.Bound.{area-bound}
 use Rattle.position.proofs.reference_position.Statement.{statement}
 use Rattle.position.proofs.reference_position.Tie as tie
 
@@ -47,7 +48,12 @@ reference-column-requires : tie.Need-reference-column-requires
 reference-column-requires c κs =
     let s = c .before .before .before .before .before .segment-length .ensures in
     let known = inside (c .before .before .before) in
-    (rw s (segment-most (known .0)), known .1 .slice, rw s (known .1 .inside))
+    let word = c .before .before .before .before .before .before .before .before .before .args .word in (
+      rw s (segment-most (known .0)),
+      known .1 .slice,
+      rw s (known .1 .inside),
+      rw (s, c .before .before .reference-lane .ensures) (area-bound (two (known .0)) (known .1) word .some),
+    )
 
 returns-3 : tie.Need-returns-3
 unfolding referenceColumn
