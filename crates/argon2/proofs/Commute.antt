@@ -11,13 +11,14 @@ use lib.ListN.{length, getD}
 use Rattle.block.specs.Block.{blockWords, compress, xors}
 use Rattle.params.specs.Limits.{slices, segment, laneLength, blocks}
 use Rattle.params.specs.declared.Params.{Params}
-use Rattle.position.specs.Address.{randomWord}
+use Rattle.address.specs.Address.{randomWord}
 use Rattle.position.specs.Position.{firstBlock, column, index, previousColumn, reference}
+use Rattle.position.proofs.Columns.{column-lt, previous-lt}
 use Rattle.position.proofs.Referring.{same-lane, ref-not-beside}
 use Rattle.argon2.specs.Filling.{currentIndex, previousIndex, wordFor, referenceIndex, newBlock, overwrites, storedBlock, fill, fillSegment, fillSlice}
 use Rattle.argon2.specs.Loop.{loop}
 use Rattle.argon2.specs.Memory.{block, put}
-use Rattle.argon2.proofs.Filling.{column-lt, previous-lt, fits-at, stored-length, fill-length}
+use Rattle.argon2.proofs.Filling.{fits-at, stored-length, fill-length}
 use Rattle.argon2.proofs.Memory.{block-put-other, put-comm}
 
 module _ (P : Params) (one : 1 ≤ P .lanes) (two : 2 ≤ segment P) (r sl : ℕ) (four : sl < slices) where
@@ -31,17 +32,17 @@ module _ (P : Params) (one : 1 ≤ P .lanes) (two : 2 ≤ segment P) (r sl : ℕ
       w′ = put (currentIndex P sl b i) y w
 
       room : blockWords * currentIndex P sl b i + blockWords ≤ length w
-      room = fits-at P w fits b (column (segment P) sl i) other (column-lt (segment P) sl i two four inside′)
+      room = fits-at P w fits b (column (segment P) sl i) other (column-lt (segment P) sl i four inside′)
 
       -- a block of the own lane is not it
       own-block : (c : ℕ) → c < laneLength P → block (index (segment P) l c) w′ ≡ block (index (segment P) l c) w
       unfolding w′
       own-block c h =
           block-put-other (currentIndex P sl b i) (index (segment P) l c) y w room full
-          (λ e. apart (sym (same-lane (segment P) l b c (column (segment P) sl i) h (column-lt (segment P) sl i two four inside′) e)))
+          (λ e. apart (sym (same-lane (segment P) l b c (column (segment P) sl i) h (column-lt (segment P) sl i four inside′) e)))
 
       same-previous : block (previousIndex P sl l k) w′ ≡ block (previousIndex P sl l k) w
-      same-previous = own-block (previousColumn (segment P) sl k) (previous-lt (segment P) sl k two four inside)
+      same-previous = own-block (previousColumn (segment P) sl k) (previous-lt (segment P) sl k four inside)
 
       same-word : wordFor P r sl l k w′ ≡ wordFor P r sl l k w
       same-word = ap (λ (v : List ℕ). randomWord P r sl l k (getD v 0 0)) same-previous
@@ -60,7 +61,7 @@ module _ (P : Params) (one : 1 ≤ P .lanes) (two : 2 ≤ segment P) (r sl : ℕ
       same-stored =
           ap (λ (v : List ℕ). cond (overwrites P r) v (xors (block (currentIndex P sl l k) w′) v)) same-new
           ∙ ap (λ (v : List ℕ). cond (overwrites P r) (newBlock P r sl l k w) (xors v (newBlock P r sl l k w)))
-          (own-block (column (segment P) sl k) (column-lt (segment P) sl k two four inside))
+          (own-block (column (segment P) sl k) (column-lt (segment P) sl k four inside))
 
   -- two lanes fill in either order
   pub fill-comm : (a i b k : ℕ) → a < P .lanes → b < P .lanes → i < segment P → k < segment P → firstBlock r sl ≤ i → firstBlock r sl ≤ k
@@ -74,8 +75,8 @@ module _ (P : Params) (one : 1 ≤ P .lanes) (two : 2 ≤ segment P) (r sl : ℕ
       let vb : List ℕ = storedBlock P r sl b k w in
       let fa : length va ≡ blockWords = stored-length P r sl a i w in
       let fb : length vb ≡ blockWords = stored-length P r sl b k w in
-      let ia : column (segment P) sl i < laneLength P = column-lt (segment P) sl i two four hi in
-      let ib : column (segment P) sl k < laneLength P = column-lt (segment P) sl k two four hk in
+      let ia : column (segment P) sl i < laneLength P = column-lt (segment P) sl i four hi in
+      let ib : column (segment P) sl k < laneLength P = column-lt (segment P) sl k four hk in
       ap (λ (v : List ℕ). put cb v (put ca va w)) (same-stored b k lb hk fk a i la hi n va w fits fa)
       ∙ put-comm ca cb va vb w
       (fits-at P w fits a (column (segment P) sl i) la ia) (fits-at P w fits b (column (segment P) sl k) lb ib)

@@ -1,4 +1,4 @@
--- Document 01, "Cases": what P1 to P8 and P10 say of sizes and positions, one record, one statement. Each line cites a definition that the
+-- Document 01, "Cases": what P1 to P8 say of sizes and positions, one record, one statement. Each line cites a definition that the
 -- promises use. Assumes nothing.
 use mathlib.Core.Bool.{true, false}
 use mathlib.Core.Path.{_≡_, refl}
@@ -8,7 +8,6 @@ use native.Mathlib.Omega.{arith}
 use borrow.Author.Tests.{eq-eqb}
 use Rattle.params.specs.Limits.{slices, segment, segmentLength, blocks}
 use Rattle.params.specs.declared.Params.{Params}
-use Rattle.position.specs.Address.{addressCounter, addressPlace}
 use Rattle.position.specs.Position.{referenceLane, finishedLength, area, place, areaStart, referenceColumn}
 
 pub record PositionCases : Type 0 where
@@ -37,9 +36,6 @@ pub record PositionCases : Type 0 where
   pub p8-place : place (area 2 1 1 1 true) 0 ≡ 5
   pub p8-slice-one : referenceColumn 1 2 1 1 0 1 0 ≡ 1
   pub p8-slice-three : referenceColumn 1 2 1 3 0 1 0 ≡ 5
-  -- P10: block 127 uses counter 1, word 127; block 128 counter 2, word 0
-  pub p10-last : (addressCounter 127 ≡ 1) × (addressPlace 127 ≡ 127)
-  pub p10-next : (addressCounter 128 ≡ 2) × (addressPlace 128 ≡ 0)
 
 one-block : (s : ℕ) → area s 0 0 2 true ≡ 1
 unfolding area finishedLength
@@ -79,6 +75,4 @@ cases =
       p8-place = refl;
       p8-slice-one = refl;
       p8-slice-three = refl;
-      p10-last = (refl, refl);
-      p10-next = (refl, refl);
     }

@@ -15,6 +15,10 @@ firstBlock r sl = cond (eqb r 0 && eqb sl 0) 2 0
 abbrev pub column : ℕ → ℕ → ℕ → ℕ
 column s sl k = sl * s + k
 
+-- a lane with segments of s blocks has block k of this slice
+abbrev pub inLane : ℕ → ℕ → ℕ → Bool
+inLane s sl k = ltb sl slices && ltb k s
+
 -- "The job": the number in memory of a lane's block, where a lane has q blocks: lane times lane length plus column
 abbrev pub inMemory : ℕ → ℕ → ℕ → ℕ
 inMemory q l c = l * q + c

@@ -1,11 +1,10 @@
 // Where a block lies, and which block it refers to: document 01's reference position.
 ghost use mathlib.Core.Path.{_≡_};
 ghost use Prim.Native.Nat.{_+_, _-_, _*_, _%_, _≤_, _<_};
-ghost use Rattle.params.specs.Limits.{slices, maxMemory, segmentLength};
+ghost use Rattle.params.specs.Limits.{slices, maxMemory};
 ghost use Rattle.position.specs.Position as spec;
-ghost use Rattle.position.specs.Promises.{FirstBlockPromise, InMemoryPromise, ReferencePromise};
+ghost use Rattle.position.specs.Promises.{FirstBlockPromise, InMemoryPromise, ColumnPromise, PreviousColumnPromise, IndexPromise, ReferencePromise};
 use answer::Answer;
-use params::Configured;
 use params::Params;
 
 // The numbers of 32 bits: a word's high half is what it has of these, its low half what is left.
@@ -40,19 +39,43 @@ pub fn first_block(pass: u32, slice: u32) -> u32
     if (pass == 0) & (slice == 0) { 2 } else { 0 }
 }
 
-// The segment length of these costs.
-fn segment_length(lanes: u32, memory: u32, passes: u32) -> u32
-    ensures { λ s. ⌜ s ≡ segmentLength memory lanes ⌝ }
+// Whether a lane with segments of this length has this block of this slice.
+fn in_lane(segment: u32, slice: u32, block: u32) -> bool
+    ensures { λ r. ⌜ r ≡ spec.inLane segment slice block ⌝ }
 {
-    let params = Params {
-        algorithm: Params::D,
-        version: Params::V0X13,
-        memory,
-        passes,
-        lanes,
-        configured: Configured::Absent,
-    };
-    params.segment_length()
+    (slice < Params::SYNC_POINTS) & (block < segment)
+}
+
+// The column of a block of a slice; 0 where a lane has no such block.
+pub fn column(params: Params, slice: u32, block: u32) -> BlockNumber
+    ensures { λ c. ⌜ ColumnPromise params slice block c ⌝ }
+{
+    let segment = params.segment_length();
+    if in_lane(segment, slice, block) {
+        return BlockNumber(slice * segment + block);
+    }
+    BlockNumber(0)
+}
+
+// The column of the block before; before a lane's first block, in a later pass, stands its last. 0 where a lane has no such block.
+pub fn previous_column(params: Params, slice: u32, block: u32) -> BlockNumber
+    ensures { λ c. ⌜ PreviousColumnPromise params slice block c ⌝ }
+{
+    if !in_lane(params.segment_length(), slice, block) {
+        return BlockNumber(0);
+    }
+    let at = column(params, slice, block).0;
+    if at == 0 {
+        return BlockNumber(params.lane_length() - 1);
+    }
+    BlockNumber(at - 1)
+}
+
+// The number in memory of a lane's block at a column.
+pub fn index(params: Params, lane: LaneNumber, column: BlockNumber) -> usize
+    ensures { λ n. ⌜ IndexPromise params lane column n ⌝ }
+{
+    column.in_memory(lane, params.lane_length())
 }
 
 // Whether pass, slice, lane and block are those of a block that a step fills.
@@ -185,7 +208,7 @@ pub fn reference_position(
     if costs.number() != 0 {
         return refused(costs);
     }
-    let segment = segment_length(lanes, memory, passes);
+    let segment = Params::segment_of(memory, lanes);
     if !fills(lanes, segment, passes, pass, slice, lane, block) {
         return refused(Answer::Inconsistent);
     }
