@@ -2,7 +2,7 @@
 use Prim.Native.Nat.{ℕ, zero, suc, _-_, _*_}
 use mathlib.Core.List.{List}
 use lib.ListN.{replicate}
-use Rattle.blake2b.specs.Blake2b.{bytes}
+use Rattle.word.specs.Word.{bytes}
 use Rattle.blake2b_long.specs.Long.{long}
 use Rattle.block.specs.Block.{blockWords, zeros, xors}
 use Rattle.params.specs.Limits.{slices, segment, blocks}

@@ -1,46 +1,16 @@
--- The bytes of a list of words, and a loop that copies a list's front. Assumes nothing.
-use Prim.Native.Nat.{ℕ, zero, suc, _+_, _-_, _*_, _/_, _%_, _<_, _≤_}
-use mathlib.Core.List.{List, [], _∷_, _++_, append-nil}
-use mathlib.Core.Path.{_≡_, refl, sym, ap, _∙_}
-use native.Mathlib.Decide.{decLt}
+-- A loop that copies a list's front, and the front of a digest. Assumes nothing.
+use Prim.Native.Nat.{ℕ, zero, suc, _+_, _-_, _<_, _≤_}
+use mathlib.Core.List.{List, _++_, append-nil}
+use mathlib.Core.Path.{_≡_, sym, ap, _∙_}
 use native.Mathlib.Nat.{le-refl, zero-add, sub-zero, zero-sub, suc-sub-suc}
 use native.Mathlib.Numerals.{add-one}
 use native.Mathlib.Omega.{arith}
-use lib.ListN.{set, take, drop, length, replicate, length-append, length-take, List·getD-append, drop-of-length-le}
-use lib.Seq.{getD-append-add, paste-suc, take-all, take-append-le}
+use lib.ListN.{set, take, drop, length, replicate, length-take, drop-of-length-le}
+use lib.Seq.{paste-suc, take-all, take-append-le}
 use Rattle.word.specs.Table.{table}
-use Rattle.word.specs.Word.{toLe}
-use Rattle.blake2b.specs.Blake2b.{_!_, maxOutput, fold, F, final, initial, bytes, blake2b}
-
-pub length-bytes : (h : List ℕ) → length (bytes h) ≡ 8 * length h
-length-bytes [] = refl
-length-bytes (w ∷ ws) = omega (arith, length-bytes ws, length-append (toLe 8 w) (bytes ws))
-
-pub bytes-at : (h : List ℕ) (i : ℕ) → i < 8 * length h → bytes h ! i ≡ toLe 8 (h ! (i / 8)) ! (i % 8)
-bytes-at [] i l = absurd (omega arith)
-bytes-at (w ∷ ws) i l =
-    elim (decLt i 8) [
-      | yes s ↦ near s
-      | no b ↦ far b (bytes-at ws (i - 8))
-    ]
-  where
-    near : i < 8 → bytes (w ∷ ws) ! i ≡ toLe 8 ((w ∷ ws) ! (i / 8)) ! (i % 8)
-    near s =
-        let q : i / 8 ≡ 0 = omega arith in
-        let r : i % 8 ≡ i = omega arith in
-        List·getD-append (toLe 8 w) (bytes ws) 0 i s ∙ rw (q, r)
-
-    far : (i < 8 → ⊥) → (i - 8 < 8 * length ws → bytes ws ! (i - 8) ≡ toLe 8 (ws ! ((i - 8) / 8)) ! ((i - 8) % 8))
-        → bytes (w ∷ ws) ! i ≡ toLe 8 ((w ∷ ws) ! (i / 8)) ! (i % 8)
-    far b rec =
-        let j = i - 8 in
-        let e : i ≡ 8 + j = omega arith in
-        let q : i / 8 ≡ suc (j / 8) = omega arith in
-        let r : i % 8 ≡ j % 8 = omega arith in
-        ap (λ (k : ℕ). bytes (w ∷ ws) ! k) e
-        ∙ getD-append-add (toLe 8 w) (bytes ws) j 0
-        ∙ rec (omega arith)
-        ∙ rw (q, r)
+use Rattle.word.specs.Word.{bytes}
+use Rattle.word.proofs.Bytes.{length-bytes}
+use Rattle.blake2b.specs.Blake2b.{_!_, maxOutput, fold, F, final, initial, blake2b}
 
 -- ---- a loop that copies: the front of d, and behind it what stood in o
 pub copied-more : (d o : List ℕ) (i v : ℕ) → i < length o → i < length d → v ≡ d ! i

@@ -9,8 +9,9 @@ use native.Mathlib.Omega.{arith}
 use borrow.Author.Tests.{lt-ltb, le-ltb}
 use lib.ListN.{set, take, drop, length, replicate, length-append, length-drop}
 use lib.Seq.{take-all, take-append-le, drop-append-le, drop-at, set-append-seam}
+use Rattle.word.specs.Word.{bytes}
 use Rattle.blake2b.specs.declared.State.{State}
-use Rattle.blake2b.specs.Blake2b.{blockBytes, maxOutput, F, words, pad, block, initial, chain, before, final, bytes, blake2b}
+use Rattle.blake2b.specs.Blake2b.{blockBytes, maxOutput, F, words, pad, block, initial, chain, before, final, blake2b}
 use Rattle.blake2b.specs.Stream.{count, fresh, flushed, put, feedByte, feedAll, sealed, ended}
 use Rattle.blake2b.proofs.Counting.{seen-low, seen-high, F-seen}
 use Rattle.blake2b.proofs.Feeding.{same-state}

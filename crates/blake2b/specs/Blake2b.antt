@@ -5,7 +5,7 @@ use mathlib.Core.List.{List, [], _∷_, _++_}
 use lib.Bits.{bitXor}
 use lib.ListN.{length, take, drop, getD, set, replicate}
 use Rattle.word.specs.Table.{table}
-use Rattle.word.specs.Word.{rotr, toLe, wordAt}
+use Rattle.word.specs.Word.{rotr, wordsOf, bytes}
 
 -- 2.1, rounds, bytes in a block, and the most bytes of a hash
 abbrev pub rounds : ℕ
@@ -134,8 +134,8 @@ pad bytes = bytes ++ replicate (blockBytes - length bytes) 0
 unfoldable pub block : ℕ → List ℕ → List ℕ
 block i msg = pad (take blockBytes (drop (blockBytes * i) msg))
 
-unfoldable pub words : List ℕ → List ℕ
-words bytes = table (λ i. wordAt bytes (8 * i)) blockWords
+abbrev pub words : List ℕ → List ℕ
+words bytes = wordsOf blockWords bytes
 
 -- 3.3, h[0] := h[0] ^ 0x01010000 ^ nn: no key, an output of n bytes
 unfoldable pub initial : ℕ → List ℕ
@@ -153,11 +153,6 @@ before msg = (length msg - 1) / blockBytes
 -- 3.3, h₀ after the whole message
 unfoldable pub final : List ℕ → List ℕ → List ℕ
 final h₀ msg = F (chain h₀ (before msg) msg) (words (block (before msg) msg)) (length msg) true
-
--- 2.4, the bytes of words
-abbrev pub bytes : List ℕ → List ℕ
-bytes [] = []
-bytes (w ∷ ws) = toLe 8 w ++ bytes ws
 
 -- 3.3, the hash of msg, of n bytes
 unfoldable pub blake2b : ℕ → List ℕ → List ℕ

@@ -5,8 +5,9 @@ use mathlib.Core.List.{List, [], _∷_, _++_}
 use lib.Dec.{eqb, ltb}
 use lib.ListN.{set, take, replicate}
 use Rattle.answer.specs.Answers.{Row, _when_}
+use Rattle.word.specs.Word.{bytes}
 use Rattle.blake2b.specs.declared.State.{State}
-use Rattle.blake2b.specs.Blake2b.{blockBytes, maxOutput, F, words, bytes, initial}
+use Rattle.blake2b.specs.Blake2b.{blockBytes, maxOutput, F, words, initial}
 
 -- the bytes of the blocks that are done, of which the state keeps 128 bits
 unfoldable pub count : State → ℕ

@@ -11,8 +11,8 @@ ghost use mathlib.Core.List.{_++_};
 ghost use mathlib.Core.Path.{_≡_};
 ghost use Prim.Native.Nat.{_-_, _<_, _≤_};
 ghost use lib.ListN.{length, take, replicate};
-ghost use Rattle.word.specs.Word.{toLe};
-ghost use Rattle.blake2b.specs.Blake2b.{_!_, maxOutput, bytes};
+ghost use Rattle.word.specs.Word.{toLe, bytes};
+ghost use Rattle.blake2b.specs.Blake2b.{_!_, maxOutput};
 ghost use Rattle.blake2b.specs.Promises.{BeginPromise, FeedPromise, EndPromise, OutputAnswerPromise, HashPromise};
 
 pub struct State {

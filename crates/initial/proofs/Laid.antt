@@ -1,13 +1,12 @@
 -- Pieces laid one after another: what was laid so far stands at the front. Assumes nothing.
-use mathlib.Core.List.{List, [], _∷_, _++_, append-nil, append-assoc}
+use mathlib.Core.List.{List, _++_}
 use mathlib.Core.Path.{_≡_, refl, sym, ap, _∙_}
 use Prim.Native.Nat.{ℕ, _+_, _*_, _≤_, _<_}
-use native.Mathlib.Numerals.{add-one}
 use native.Mathlib.Omega.{arith}
 use lib.ListN.{length, take, drop, getD, length-append, length-take, length-drop}
-use lib.Seq.{take-at, take-suc, take-all, length-take-le}
-use Rattle.word.specs.Word.{toLe}
-use Rattle.blake2b.specs.Blake2b.{bytes}
+use lib.Seq.{take-at, take-all, length-take-le}
+use Rattle.word.specs.Word.{toLe, bytes}
+use Rattle.word.proofs.Bytes.{bytes-more}
 
 -- a piece p laid at a place of o
 module _ (o p : List ℕ) (at : ℕ) {o′ : List ℕ} (fits : at + length p ≤ length o) (lay : o′ ≡ take at o ++ p ++ drop (at + length p) o) where
@@ -34,19 +33,6 @@ three-laid o a b c m n {o₁} {o₂} {o₃} la lb lc e₁ e₂ e₃ =
     let t₁ : take m o₁ ≡ a = ap (λ (k : ℕ). take k o₁) at₁ ∙ laid o a 0 (omega arith) e₁ refl in
     let t₂ : take n o₂ ≡ a ++ b = ap (λ (k : ℕ). take k o₂) (sym lb) ∙ laid o₁ b m (omega arith) e₂ t₁ in
     sym (take-all (n + length c) o₃ (omega arith)) ∙ laid o₂ c n (omega arith) e₃ t₂
-
--- the bytes of words are those of each
-bytes-append : (a b : List ℕ) → bytes (a ++ b) ≡ bytes a ++ bytes b
-bytes-append [] b = refl
-bytes-append (x ∷ a) b = ap (λ (l : List ℕ). toLe 8 x ++ l) (bytes-append a b) ∙ sym (append-assoc (toLe 8 x) (bytes a) (bytes b))
-
--- one word more
-bytes-more : (w : List ℕ) (n : ℕ) → n < length w → bytes (take (n + 1) w) ≡ bytes (take n w) ++ toLe 8 (getD w n 0)
-bytes-more w n h =
-    ap (λ (m : ℕ). bytes (take m w)) (add-one n)
-    ∙ ap bytes (take-suc w n 0 h)
-    ∙ bytes-append (take n w) (getD w n 0 ∷ [])
-    ∙ ap (λ (l : List ℕ). bytes (take n w) ++ l) (append-nil (toLe 8 (getD w n 0)))
 
 -- a word's bytes laid after those of the n words before it
 pub word-laid : (w o p : List ℕ) (n : ℕ) {o′ : List ℕ} → n < length w → 8 * n + 8 ≤ length o → p ≡ toLe 8 (getD w n 0)

@@ -1,4 +1,3 @@
-pub mod Cut
 pub mod Digests
 pub mod HashInput
 pub mod Laid

@@ -1,9 +1,8 @@
 -- Document 01, "Initial hash" (RFC 9106, 3.2): what is hashed first, and the blocks that a lane begins with.
-use Prim.Native.Nat.{ℕ, _+_, _*_}
+use Prim.Native.Nat.{ℕ}
 use mathlib.Core.List.{List, [], _∷_, _++_}
 use lib.ListN.{length}
-use Rattle.word.specs.Table.{table}
-use Rattle.word.specs.Word.{toLe, wordAt}
+use Rattle.word.specs.Word.{toLe, wordsOf}
 use Rattle.blake2b.specs.Blake2b.{blake2b}
 use Rattle.blake2b_long.specs.Long.{long}
 use Rattle.block.specs.Block.{blockBytes, blockWords}
@@ -34,10 +33,6 @@ initialHashBytes = 64
 unfoldable pub initialHash : Params → ℕ → List ℕ → List ℕ → List ℕ → List ℕ → List ℕ
 initialHash P tag password salt secret ad = blake2b initialHashBytes (hashInput P tag password salt secret ad)
 
--- the words of a block, little-endian in its bytes
-unfoldable pub blockOf : List ℕ → List ℕ
-blockOf bytes = table (λ n. wordAt bytes (8 * n)) blockWords
-
 -- block b of lane l, b being 0 or 1: the 1,024-byte variable hash of initial hash h, block number and l, both 4 bytes
 unfoldable pub firstWords : List ℕ → ℕ → ℕ → List ℕ
-firstWords h l b = blockOf (long blockBytes (h ++ le32 b ++ le32 l))
+firstWords h l b = wordsOf blockWords (long blockBytes (h ++ le32 b ++ le32 l))

@@ -6,8 +6,8 @@ ghost use mathlib.Core.List.{_++_};
 ghost use mathlib.Core.Path.{_≡_};
 ghost use Prim.Native.Nat.{_+_, _≤_};
 ghost use lib.ListN.{length, take, drop};
-ghost use Rattle.blake2b.specs.Blake2b.{bytes};
-ghost use Rattle.initial.specs.Initial.{blockOf};
+ghost use Rattle.word.specs.Word.{wordsOf, bytes};
+ghost use Rattle.block.specs.Block.{blockWords};
 
 // The bytes of a word.
 const WORD: usize = 8;
@@ -29,7 +29,7 @@ pub(crate) fn lay(out: &mut [u8], at: usize, piece: &[u8])
 
 // The block of some bytes.
 pub(crate) fn block_of(bytes: [u8; Block::SIZE]) -> Block
-    ensures { λ r. ⌜ r .words ≡ blockOf bytes ⌝ }
+    ensures { λ r. ⌜ r .words ≡ wordsOf blockWords bytes ⌝ }
 {
     let s = &bytes[..];
     let mut words = [0; Block::WORDS];

@@ -6,8 +6,8 @@ use native.Mathlib.Numerals.{add-one}
 use native.Mathlib.Omega.{arith}
 use lib.ListN.{length, getD, take, drop, drop-of-length-le}
 use lib.Seq.{drop-cons}
-use Rattle.word.specs.Word.{toLe}
-use Rattle.blake2b.specs.Blake2b.{bytes, blake2b, maxOutput}
+use Rattle.word.specs.Word.{toLe, bytes}
+use Rattle.blake2b.specs.Blake2b.{blake2b, maxOutput}
 use Rattle.blake2b.specs.Stream.{fresh, feedAll, ended}
 use Rattle.blake2b.specs.declared.State.{State}
 use Rattle.blake2b.proofs.Bytes.{front, length-blake2b}

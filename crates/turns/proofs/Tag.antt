@@ -9,7 +9,7 @@ use native.Mathlib.Omega.{arith}
 use lib.ListN.{length, replicate, length-replicate}
 use borrow.Author.Tests.{eq-eqb, ne-eqb}
 use Rattle.answer.specs.Answers.{first, ifAccepted}
-use Rattle.blake2b.specs.Blake2b.{bytes}
+use Rattle.word.specs.Word.{bytes}
 use Rattle.blake2b_long.specs.Long.{long}
 use Rattle.block.specs.Block.{blockWords, xors}
 use Rattle.params.specs.Limits.{rows, slices, segment, blocks}

@@ -5,8 +5,10 @@ use mathlib.Core.Path.{_≡_, refl, sym, ap, _∙_}
 use native.Mathlib.Omega.{arith}
 use borrow.Author.Tests.{ltb-true, ltb-false}
 use lib.ListN.{length, take, drop, set, replicate, length-set}
-use Rattle.blake2b.specs.Blake2b.{stateWords, maxOutput, bytes}
-use Rattle.blake2b.proofs.Bytes.{length-bytes, bytes-at, copied-more, zeros-after, no-zeros}
+use Rattle.word.specs.Word.{bytes}
+use Rattle.word.proofs.Bytes.{length-bytes, bytes-at}
+use Rattle.blake2b.specs.Blake2b.{stateWords, maxOutput}
+use Rattle.blake2b.proofs.Bytes.{copied-more, zeros-after, no-zeros}
 use Rattle.blake2b.proofs.digest.Statement.{statement}
 use Rattle.blake2b.proofs.digest.Tie as tie
 

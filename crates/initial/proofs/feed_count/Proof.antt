@@ -2,7 +2,7 @@
 use mathlib.Core.Path.{ap, _∙_}
 use borrow.Author.Needs.{needs}
 use Rattle.blake2b.specs.Stream.{feedAll}
-use Rattle.initial.proofs.Cut.{four}
+use Rattle.word.proofs.Cut.{four}
 use Rattle.initial.proofs.feed_count.Statement.{statement}
 use Rattle.initial.proofs.feed_count.Tie as tie
 

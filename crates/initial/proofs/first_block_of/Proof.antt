@@ -2,8 +2,9 @@
 use mathlib.Core.Path.{ap, _∙_}
 use borrow.Author.Needs.{needs}
 use Rattle.blake2b_long.specs.Long.{long}
-use Rattle.block.specs.Block.{blockBytes}
-use Rattle.initial.specs.Initial.{blockOf, firstWords}
+use Rattle.word.specs.Word.{wordsOf}
+use Rattle.block.specs.Block.{blockBytes, blockWords}
+use Rattle.initial.specs.Initial.{firstWords}
 use Rattle.initial.proofs.first_block_of.Statement.{statement}
 use Rattle.initial.proofs.first_block_of.Tie as tie
 
@@ -12,7 +13,7 @@ unfolding firstWords
 returns c =
     let long-call = c .before .before in
     c .block-of .ensures
-    ∙ ap blockOf (long-call .blake2b-long .ensures .output ∙ ap (long blockBytes) (long-call .before .before .before .first-input .ensures))
+    ∙ ap (wordsOf blockWords) (long-call .blake2b-long .ensures .output ∙ ap (long blockBytes) (long-call .before .before .before .first-input .ensures))
 
 pub first-block-of-spec : {M : Type 1} → statement M
 first-block-of-spec =

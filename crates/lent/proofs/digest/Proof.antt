@@ -5,8 +5,7 @@ use mathlib.Core.Path.{_≡_, refl, sym, ap, _∙_}
 use native.Mathlib.Omega.{arith}
 use borrow.Author.Needs.{needs}
 use lib.ListN.{length, drop}
-use Rattle.word.specs.Word.{toLe}
-use Rattle.blake2b.specs.Blake2b.{bytes}
+use Rattle.word.specs.Word.{toLe, bytes}
 use Rattle.blake2b.specs.Stream.{fresh, feedAll}
 use Rattle.lent.specs.Lent.{digestBytes}
 use Rattle.lent.proofs.Feeding.{begun, fed, ended-is}

@@ -3,7 +3,7 @@ use mathlib.Core.Path.{sym, ap, _∙_}
 use native.Mathlib.Omega.{arith}
 use borrow.Author.Needs.{needs}
 use lib.ListN.{length}
-use Rattle.blake2b.specs.Blake2b.{bytes}
+use Rattle.word.specs.Word.{bytes}
 use Rattle.blake2b.proofs.Outputs.{within, if-accepted}
 use Rattle.blake2b_long.specs.Long.{long}
 use Rattle.argon2.specs.Argon2.{tagOf}

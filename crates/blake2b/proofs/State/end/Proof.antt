@@ -5,7 +5,8 @@ use mathlib.Core.List.{List, _++_}
 use mathlib.Core.Path.{ap, _∙_}
 use borrow.Author.Needs.{needs}
 use lib.ListN.{take, replicate}
-use Rattle.blake2b.specs.Blake2b.{maxOutput, bytes}
+use Rattle.word.specs.Word.{bytes}
+use Rattle.blake2b.specs.Blake2b.{maxOutput}
 use Rattle.blake2b.specs.Stream.{count, sealed, ended}
 use Rattle.blake2b.proofs.Counting.{compressed}
 use Rattle.blake2b.proofs.State.end.Statement.{statement}

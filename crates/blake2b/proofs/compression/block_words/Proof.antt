@@ -1,12 +1,12 @@
 -- `blake2b::compression::block_words` meets its contract: sixteen loads. Assumes nothing.
 use Rattle.word.specs.Table.{table}
-use Rattle.blake2b.specs.Blake2b.{words}
+use Rattle.word.specs.Word.{wordsOf}
 use borrow.Author.Needs.{needs}
 use Rattle.blake2b.proofs.compression.block_words.Statement.{statement}
 use Rattle.blake2b.proofs.compression.block_words.Tie as tie
 
 returns : tie.Need-returns
-unfolding table words
+unfolding table wordsOf
 returns c =
     cc (
       c .before .before .before .before .before .before .before .before .before .before .before .before .before .before .before .load .ensures .result,

@@ -4,10 +4,9 @@ use mathlib.Core.Path.{_≡_, refl}
 use native.Mathlib.Omega.{arith}
 use borrow.Author.Needs.{needs}
 use lib.ListN.{length, getD, length-set}
-use Rattle.word.specs.Word.{wordAt}
+use Rattle.word.specs.Word.{wordAt, wordsOf}
 use Rattle.word.proofs.Table.{is-table, filled}
 use Rattle.block.specs.Block.{blockWords}
-use Rattle.initial.specs.Initial.{blockOf}
 use Rattle.initial.proofs.bytes.block_of.Statement.{statement}
 use Rattle.initial.proofs.bytes.block_of.Tie as tie
 
@@ -27,7 +26,7 @@ loop-again c =
     (omega arith, simp length-set (l .inv .1), filled (λ j. wordAt _ (8 * j)) (l .words) (l .n) _ (omega arith) (l .inv .2) (c .load .ensures .result))
 
 returns : tie.Need-returns Inv-loop μ-loop
-unfolding blockOf
+unfolding wordsOf
 returns c =
     let l = c .before .loop in
     is-table (λ j. wordAt _ (8 * j)) blockWords (l .words) (l .inv .1) (λ j b. l .inv .2 j (omega arith))

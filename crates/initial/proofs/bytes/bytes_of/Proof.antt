@@ -5,7 +5,7 @@ use native.Mathlib.Omega.{arith}
 use borrow.Author.Needs.{needs}
 use lib.ListN.{length, take}
 use lib.Seq.{take-all}
-use Rattle.blake2b.specs.Blake2b.{bytes}
+use Rattle.word.specs.Word.{bytes}
 use Rattle.block.specs.Block.{blockBytes, blockWords}
 use Rattle.initial.proofs.Laid.{word-laid}
 use Rattle.initial.proofs.bytes.bytes_of.Statement.{statement}

@@ -4,7 +4,7 @@ use mathlib.Core.List.{List, [], _∷_}
 use mathlib.Core.Path.{_≡_, ap, _∙_}
 use native.Mathlib.Omega.{arith}
 use lib.Arith.{mod-mul}
-use Rattle.word.specs.Word.{toLe}
+use Rattle.word.specs.Word.{half, toLe}
 
 low : (x y : ℕ) → y < 256 → (x * 256 + y) % 256 ≡ y
 low x y h = omega arith
@@ -26,7 +26,7 @@ one n =
     let e : n % 256 % 256 ≡ n % 256 = omega arith in
     ap (λ (b : ℕ). b ∷ []) e
 
-pub four : (n : ℕ) → toLe 4 (n % 4294967296) ≡ toLe 4 n
+pub four : (n : ℕ) → toLe 4 (n % half) ≡ toLe 4 n
 four n =
     more 3 16777216 n (omega arith)
     (more 2 65536 (n / 256) (omega arith) (more 1 256 (n / 256 / 256) (omega arith) (one (n / 256 / 256 / 256))))
