@@ -1,37 +1,24 @@
--- Filling a block writes that block alone: where the block, the previous one and any other lie in memory, that the memory stays as long,
+-- Filling a block writes that block alone: where any block lies in memory, that the memory stays as long,
 -- what the block then holds, and that every other word is as it was. Assumes nothing.
 use mathlib.Core.Path.{_≡_}
 use mathlib.Core.Logic.{_≢_}
 use mathlib.Core.Bool.{Bool, true, false, cond}
 use mathlib.Core.List.{List}
-use Prim.Native.Nat.{ℕ, _+_, _-_, _*_, _/_, _≤_, _<_}
+use Prim.Native.Nat.{ℕ, _+_, _*_, _/_, _≤_, _<_}
 use native.Mathlib.Omega.{arith}
-use lib.Dec.{eqb}
 use lib.ListN.{length, getD}
 use Rattle.block.specs.Block.{blockWords, xors, compress}
 use Rattle.block.proofs.Laws.{length-xors, length-compress}
 use Rattle.params.specs.Limits.{slices, segment, laneLength, blocks}
 use Rattle.params.specs.declared.Params.{Params}
-use Rattle.position.specs.Address.{addressed, addressBlock, addressCounter, addressPlace, addressedWord, randomWord}
-use Rattle.position.specs.Position.{column, index, previousColumn, reference}
-use Rattle.position.proofs.Referring.{segments, index-lt}
+use Rattle.address.specs.Address.{addressed, addressBlock, addressCounter, addressPlace, addressedWord, randomWord}
+use Rattle.position.specs.Position.{column, index, reference}
+use Rattle.position.proofs.Columns.{column-lt}
+use Rattle.position.proofs.Referring.{index-lt}
 use Rattle.argon2.specs.Filling.{currentIndex, previousIndex, wordFor, referenceIndex, newBlock, overwrites, stored, storedBlock, fill}
 use Rattle.argon2.specs.Inner.{Has}
 use Rattle.argon2.specs.Memory.{block, put}
 use Rattle.argon2.proofs.Memory.{length-put, block-put-same, put-outside}
-
--- a block of s blocks in a slice, and the one before it, lie in the lane
-module _ (s sl k : ℕ) (two : 2 ≤ s) (four : sl < slices) (inside : k < s) where
-  pub column-lt : column s sl k < slices * s
-  column-lt = omega (arith, segments s 0 sl two four)
-
-  pub previous-lt : previousColumn s sl k < slices * s
-  unfolding previousColumn
-  previous-lt = go (eqb (column s sl k) 0)
-    where
-      go : (t : Bool) → cond t (slices * s - 1) (column s sl k - 1) < slices * s
-      go true = omega arith
-      go false = omega (arith, column-lt)
 
 -- a lane's block lies in a memory of all the blocks
 pub has-at : (P : Params) (words : ℕ) → blockWords * blocks P ≤ words → (l c : ℕ) → l < P .lanes → c < laneLength P
@@ -58,7 +45,7 @@ module _
   where
     -- the block lies in the memory
     pub room : blockWords * currentIndex P sl l k + blockWords ≤ length w
-    room = fits-at P w fits l (column (segment P) sl k) lane (column-lt (segment P) sl k two four inside)
+    room = fits-at P w fits l (column (segment P) sl k) lane (column-lt (segment P) sl k four inside)
 
     -- the memory stays as long
     pub fill-length : length (fill P r sl l k w) ≡ length w

@@ -8,7 +8,7 @@ use lib.ListN.{getD}
 use Rattle.block.specs.Block.{compress, xors}
 use Rattle.params.specs.Limits.{slices, segment, v10}
 use Rattle.params.specs.declared.Params.{Params}
-use Rattle.position.specs.Address.{randomWord}
+use Rattle.address.specs.Address.{randomWord}
 use Rattle.position.specs.Position.{firstBlock, column, index, previousColumn, reference}
 use Rattle.argon2.specs.Loop.{loop}
 use Rattle.argon2.specs.Memory.{block, put}

@@ -10,7 +10,7 @@ use lib.Dec.{eqb}
 use borrow.Author.Tests.{eqb-false}
 use Rattle.word.proofs.Half.{product-lt}
 use Rattle.params.specs.Limits.{slices}
-use Rattle.position.specs.Position.{referenceLane, finished, area}
+use Rattle.position.specs.Position.{referenceLane, finishedLength, area}
 use Rattle.position.proofs.Accepted.{Filled}
 use Rattle.position.proofs.Referring.{area-own, area-other, finished-some, not-first}
 
@@ -18,7 +18,7 @@ use Rattle.position.proofs.Referring.{area-own, area-other, finished-so
 abbrev pub square : ℕ → ℕ
 square x = x % 2 ^ 32 * (x % 2 ^ 32) / 2 ^ 32
 
-square-lt : (x : ℕ) → square x < 2 ^ 32
+pub square-lt : (x : ℕ) → square x < 2 ^ 32
 square-lt x = omega (arith, product-lt 32 {a = x % 2 ^ 32} {b = x % 2 ^ 32} (omega arith) (omega arith))
 
 -- where there is an area, what the square takes of it is less than all
@@ -31,11 +31,11 @@ abbrev pub own : ℕ → ℕ → ℕ → ℕ → ℕ → Bool
 own p r sl l x = eqb (referenceLane p r sl l x) l
 
 pub record AreaBound (p s r sl l k x : ℕ) : Type 0 where
-  -- what `finished` takes away is there
+  -- what `finishedLength` takes away is there
   pub of-lane : s ≤ slices * s
   -- what `area` takes away is there, in the own lane and in another
-  pub of-own : own p r sl l x ≡ true → 1 ≤ finished s r sl + k
-  pub of-other : own p r sl l x ≡ false → cond (eqb k 0) 1 0 ≤ finished s r sl
+  pub of-own : own p r sl l x ≡ true → 1 ≤ finishedLength s r sl + k
+  pub of-other : own p r sl l x ≡ false → cond (eqb k 0) 1 0 ≤ finishedLength s r sl
   -- what `place` takes away is there
   pub some : 1 ≤ area s r sl k (own p r sl l x)
   pub share : area s r sl k (own p r sl l x) * square x / 2 ^ 32 ≤ area s r sl k (own p r sl l x) - 1

@@ -1,5 +1,5 @@
 -- `window`: document 01's area is the size of RFC 9106's set W, and its reference block is the entry zz of W. Every part of W is a ring of
--- columns, and so is W: it begins at `start` and has `area` columns. Assumes nothing.
+-- columns, and so is W: it begins at `areaStart` and has `area` columns. Assumes nothing.
 use mathlib.Core.Bool.{Bool, true, false, cond}
 use mathlib.Core.List.{List, [], _∷_, _++_}
 use mathlib.Core.Path.{_≡_, refl, sym, ap, _∙_}
@@ -10,7 +10,7 @@ use lib.Dec.{eqb, ltb}
 use lib.ListN.{length, getD}
 use borrow.Author.Tests.{eqb-true, eqb-false, ne-eqb, ltb-true, ltb-false, lt-ltb, le-ltb}
 use Rattle.params.specs.Limits.{slices}
-use Rattle.position.specs.Position.{column, previousColumn, finished, area, place, start, referenceColumn}
+use Rattle.position.specs.Position.{column, previousColumn, finishedLength, area, place, areaStart, referenceColumn}
 use Rattle.position.specs.Window.{computedSlices, last, blocksOf, finishedBlocks, excluding, currentBlocks, butLast, W, zz}
 use Rattle.position.proofs.Accepted.{Filled}
 use Rattle.position.proofs.Bound.{own, area-bound, share-lt}
@@ -35,7 +35,7 @@ own-count n zero = omega arith
 own-count n (suc j) =
     ap (λ (t : Bool). n + (suc j - 1) - cond t 1 0) (ne-eqb (suc j) 0 (λ e. omega arith)) ∙ omega arith
 
--- ---- start and finished, from the segments computed so far
+-- ---- where the area starts, and how long the finished segments are, from the segments computed so far
 
 -- whole turns round the lane go away
 turns : (a b s : ℕ) → (a + b * slices) * s % (slices * s) ≡ a * s % (slices * s)
@@ -44,20 +44,20 @@ turns a b s =
     ap (λ (z : ℕ). z % (slices * s)) e ∙ add-mul-mod-self-right (a * s) b (slices * s)
 
 module _ (s r sl : ℕ) (four : sl < slices) where
-  start-zero : eqb r 0 ≡ true → start s r sl ≡ 0
-  unfolding start
+  start-zero : eqb r 0 ≡ true → areaStart s r sl ≡ 0
+  unfolding areaStart
   start-zero e = simp e
 
-  start-next : eqb r 0 ≡ false → sl + 1 < slices → start s r sl ≡ (sl + 1) * s
-  unfolding start
+  start-next : eqb r 0 ≡ false → sl + 1 < slices → areaStart s r sl ≡ (sl + 1) * s
+  unfolding areaStart
   start-next e h = simp (e, lt-ltb (sl + 1) slices h)
 
-  start-last : eqb r 0 ≡ false → slices ≤ sl + 1 → start s r sl ≡ 0
-  unfolding start
+  start-last : eqb r 0 ≡ false → slices ≤ sl + 1 → areaStart s r sl ≡ 0
+  unfolding areaStart
   start-last e h = simp (e, le-ltb (sl + 1) slices h)
 
-  finished-at : (t : Bool) → eqb r 0 ≡ t → finished s r sl ≡ cond t (sl * s) (slices * s - s)
-  unfolding finished
+  finished-at : (t : Bool) → eqb r 0 ≡ t → finishedLength s r sl ≡ cond t (sl * s) (slices * s - s)
+  unfolding finishedLength
   finished-at t e = ap (λ (t : Bool). cond t (sl * s) (slices * s - s)) e
 
   -- the segments computed before this one, and how many of them are not among the last three
@@ -67,15 +67,15 @@ module _ (s r sl : ℕ) (four : sl < slices) where
   older : ℕ
   older = computed - (slices - 1)
 
-  start-is : older * s % (slices * s) ≡ start s r sl % (slices * s)
+  start-is : older * s % (slices * s) ≡ areaStart s r sl % (slices * s)
   unfolding computed older
   start-is = go (eqb r 0) refl (ltb (sl + 1) slices) refl
     where
-      go : (t : Bool) → eqb r 0 ≡ t → (u : Bool) → ltb (sl + 1) slices ≡ u → older * s % (slices * s) ≡ start s r sl % (slices * s)
+      go : (t : Bool) → eqb r 0 ≡ t → (u : Bool) → ltb (sl + 1) slices ≡ u → older * s % (slices * s) ≡ areaStart s r sl % (slices * s)
       go true e u h =
           let z : r ≡ 0 = eqb-true r 0 e in
           let o : older ≡ 0 = omega arith in
-          let n : older * s ≡ start s r sl = ap (λ (n : ℕ). n * s) o ∙ omega (arith, start-zero e) in
+          let n : older * s ≡ areaStart s r sl = ap (λ (n : ℕ). n * s) o ∙ omega (arith, start-zero e) in
           ap (λ (n : ℕ). n % (slices * s)) n
       go false e true h =
           let z : r ≡ 0 → ⊥ = eqb-false r 0 e in
@@ -85,14 +85,14 @@ module _ (s r sl : ℕ) (four : sl < slices) where
           let z : r ≡ 0 → ⊥ = eqb-false r 0 e in
           let three : slices ≤ sl + 1 = ltb-false (sl + 1) slices h in
           let o : older ≡ 0 + r * slices = omega arith in
-          let n : 0 * s ≡ start s r sl = omega (arith, start-last e (ltb-false (sl + 1) slices h)) in
+          let n : 0 * s ≡ areaStart s r sl = omega (arith, start-last e (ltb-false (sl + 1) slices h)) in
           ap (λ (n : ℕ). n * s % (slices * s)) o ∙ turns 0 r s ∙ ap (λ (n : ℕ). n % (slices * s)) n
 
-  finished-is : (computed - older) * s ≡ finished s r sl
+  finished-is : (computed - older) * s ≡ finishedLength s r sl
   unfolding computed older
   finished-is = go (eqb r 0) refl
     where
-      go : (t : Bool) → eqb r 0 ≡ t → (computed - older) * s ≡ finished s r sl
+      go : (t : Bool) → eqb r 0 ≡ t → (computed - older) * s ≡ finishedLength s r sl
       go true e =
           let z : r ≡ 0 = eqb-true r 0 e in
           let o : computed - older ≡ sl = omega arith in
@@ -103,31 +103,31 @@ module _ (s r sl : ℕ) (four : sl < slices) where
           ap (λ (n : ℕ). n * s) o ∙ omega (arith, finished-at false e)
 
   -- behind the finished segments comes this one
-  behind : sl * s % (slices * s) ≡ (start s r sl + finished s r sl) % (slices * s)
+  behind : sl * s % (slices * s) ≡ (areaStart s r sl + finishedLength s r sl) % (slices * s)
   behind = go (eqb r 0) refl (ltb (sl + 1) slices) refl
     where
-      go : (t : Bool) → eqb r 0 ≡ t → (u : Bool) → ltb (sl + 1) slices ≡ u → sl * s % (slices * s) ≡ (start s r sl + finished s r sl) % (slices * s)
+      go : (t : Bool) → eqb r 0 ≡ t → (u : Bool) → ltb (sl + 1) slices ≡ u → sl * s % (slices * s) ≡ (areaStart s r sl + finishedLength s r sl) % (slices * s)
       go true e u h =
-          let n : sl * s ≡ start s r sl + finished s r sl = omega (arith, start-zero e, finished-at true e) in
+          let n : sl * s ≡ areaStart s r sl + finishedLength s r sl = omega (arith, start-zero e, finished-at true e) in
           ap (λ (n : ℕ). n % (slices * s)) n
       go false e true h =
-          let n : sl * s + slices * s ≡ start s r sl + finished s r sl = omega (arith, start-next e (ltb-true (sl + 1) slices h), finished-at false e) in
+          let n : sl * s + slices * s ≡ areaStart s r sl + finishedLength s r sl = omega (arith, start-next e (ltb-true (sl + 1) slices h), finished-at false e) in
           sym (add-mod-right (sl * s) (slices * s)) ∙ ap (λ (n : ℕ). n % (slices * s)) n
       go false e false h =
           let three : sl ≡ slices - 1 = omega (arith, ltb-false (sl + 1) slices h) in
           let m : sl * s ≡ (slices - 1) * s = ap (λ (n : ℕ). n * s) three in
-          let n : sl * s ≡ start s r sl + finished s r sl = omega (arith, start-last e (ltb-false (sl + 1) slices h), finished-at false e) in
+          let n : sl * s ≡ areaStart s r sl + finishedLength s r sl = omega (arith, start-last e (ltb-false (sl + 1) slices h), finished-at false e) in
           ap (λ (n : ℕ). n % (slices * s)) n
 
   -- ---- the parts of W
 
-  finished-ring : finishedBlocks s r sl ≡ ring s (start s r sl) (finished s r sl)
+  finished-ring : finishedBlocks s r sl ≡ ring s (areaStart s r sl) (finishedLength s r sl)
   unfolding computedSlices computed older
   finished-ring =
       ap (λ (l : List ℕ). blocksOf s l) (last-table (λ n. n % slices) computed (slices - 1))
       ∙ blocks-ring s older (computed - older)
       ∙ ap (λ (n : ℕ). ring s (older * s) n) finished-is
-      ∙ ring-round s (older * s) (start s r sl) (finished s r sl) start-is
+      ∙ ring-round s (older * s) (areaStart s r sl) (finishedLength s r sl) start-is
 
   before : (j : ℕ) → previousColumn s sl (suc j) ≡ column s sl j
   unfolding previousColumn
@@ -135,7 +135,7 @@ module _ (s r sl : ℕ) (four : sl < slices) where
       ap (λ (t : Bool). cond t (slices * s - 1) (column s sl (suc j) - 1)) (ne-eqb (column s sl (suc j)) 0 (λ e. omega arith))
       ∙ omega arith
 
-  current-ring : (k : ℕ) → k ≤ s → currentBlocks s sl k ≡ ring s (start s r sl + finished s r sl) (k - 1)
+  current-ring : (k : ℕ) → k ≤ s → currentBlocks s sl k ≡ ring s (areaStart s r sl + finishedLength s r sl) (k - 1)
   unfolding excluding table ring previousColumn
   current-ring zero inside = refl
   current-ring (suc j) inside =
@@ -149,43 +149,43 @@ module _ (s r sl : ℕ) (four : sl < slices) where
       ∙ excluding-last (f j) (table f j) (λ i b e. omega (arith, sym (getD-table f j i (omega (arith, length-table f j))) ∙ e, length-table f j))
       ∙ ap (λ (n : ℕ). table (λ i. column s n i) j) (sym this)
       ∙ segment-ring s sl j (omega arith)
-      ∙ ring-round s (sl * s) (start s r sl + finished s r sl) j behind
-      ∙ ap (λ (n : ℕ). ring s (start s r sl + finished s r sl) n) count
+      ∙ ring-round s (sl * s) (areaStart s r sl + finishedLength s r sl) j behind
+      ∙ ap (λ (n : ℕ). ring s (areaStart s r sl + finishedLength s r sl) n) count
 
   -- ---- W itself
 
-  own-ring : (k : ℕ) → k ≤ s → finishedBlocks s r sl ++ currentBlocks s sl k ≡ ring s (start s r sl) (finished s r sl + (k - 1))
+  own-ring : (k : ℕ) → k ≤ s → finishedBlocks s r sl ++ currentBlocks s sl k ≡ ring s (areaStart s r sl) (finishedLength s r sl + (k - 1))
   own-ring k inside =
       ap (λ (l : List ℕ). l ++ currentBlocks s sl k) finished-ring
-      ∙ ap (λ (l : List ℕ). ring s (start s r sl) (finished s r sl) ++ l) (current-ring k inside)
-      ∙ ring-append s (start s r sl) (finished s r sl) (k - 1)
+      ∙ ap (λ (l : List ℕ). ring s (areaStart s r sl) (finishedLength s r sl) ++ l) (current-ring k inside)
+      ∙ ring-append s (areaStart s r sl) (finishedLength s r sl) (k - 1)
 
   -- the last one is excluded at a segment's first block
-  dropped : (w : List ℕ) (k n m : ℕ) → w ≡ ring s (start s r sl) n → n - cond (eqb k 0) 1 0 ≡ m
-      → cond (eqb k 0) (butLast w) w ≡ ring s (start s r sl) m
+  dropped : (w : List ℕ) (k n m : ℕ) → w ≡ ring s (areaStart s r sl) n → n - cond (eqb k 0) 1 0 ≡ m
+      → cond (eqb k 0) (butLast w) w ≡ ring s (areaStart s r sl) m
   dropped w k n m e h = go (eqb k 0) h
     where
-      go : (t : Bool) → n - cond t 1 0 ≡ m → cond t (butLast w) w ≡ ring s (start s r sl) m
+      go : (t : Bool) → n - cond t 1 0 ≡ m → cond t (butLast w) w ≡ ring s (areaStart s r sl) m
       go true h =
-          ap (λ (l : List ℕ). butLast l) e ∙ ring-butLast s (start s r sl) n ∙ ap (λ (z : ℕ). ring s (start s r sl) z) h
+          ap (λ (l : List ℕ). butLast l) e ∙ ring-butLast s (areaStart s r sl) n ∙ ap (λ (z : ℕ). ring s (areaStart s r sl) z) h
       go false h =
           let all : n ≡ m = omega arith in
-          e ∙ ap (λ (z : ℕ). ring s (start s r sl) z) all
+          e ∙ ap (λ (z : ℕ). ring s (areaStart s r sl) z) all
 
   -- what is left is the area, in the own lane and in another
-  own-area : (k : ℕ) → finished s r sl + (k - 1) - cond (eqb k 0) 1 0 ≡ area s r sl k true
+  own-area : (k : ℕ) → finishedLength s r sl + (k - 1) - cond (eqb k 0) 1 0 ≡ area s r sl k true
   unfolding area
-  own-area k = own-count (finished s r sl) k
+  own-area k = own-count (finishedLength s r sl) k
 
-  other-area : (k : ℕ) → finished s r sl - cond (eqb k 0) 1 0 ≡ area s r sl k false
+  other-area : (k : ℕ) → finishedLength s r sl - cond (eqb k 0) 1 0 ≡ area s r sl k false
   unfolding area
   other-area k = refl
 
-  W-ring : (k : ℕ) (own : Bool) → k ≤ s → W s r sl k own ≡ ring s (start s r sl) (area s r sl k own)
+  W-ring : (k : ℕ) (own : Bool) → k ≤ s → W s r sl k own ≡ ring s (areaStart s r sl) (area s r sl k own)
   unfolding W
   W-ring k true inside =
-      dropped (finishedBlocks s r sl ++ currentBlocks s sl k) k (finished s r sl + (k - 1)) (area s r sl k true) (own-ring k inside) (own-area k)
-  W-ring k false inside = dropped (finishedBlocks s r sl) k (finished s r sl) (area s r sl k false) finished-ring (other-area k)
+      dropped (finishedBlocks s r sl ++ currentBlocks s sl k) k (finishedLength s r sl + (k - 1)) (area s r sl k true) (own-ring k inside) (own-area k)
+  W-ring k false inside = dropped (finishedBlocks s r sl) k (finishedLength s r sl) (area s r sl k false) finished-ring (other-area k)
 
 module _ {p s t r sl l k : ℕ} (two : 2 ≤ s) (f : Filled p s t r sl l k) (x : ℕ) where
   pub window : IsWindow p s r sl l k x
@@ -193,11 +193,11 @@ module _ {p s t r sl l k : ℕ} (two : 2 ≤ s) (f : Filled p s t r sl l k) (x :
   window =
       let o : Bool = own p r sl l x in
       let a : ℕ = area s r sl k o in
-      let w : W s r sl k o ≡ ring s (start s r sl) a = W-ring s r sl (f .slice) k o (omega arith) in
-      let size : length (W s r sl k o) ≡ a = ap length w ∙ length-ring s (start s r sl) a in
+      let w : W s r sl k o ≡ ring s (areaStart s r sl) a = W-ring s r sl (f .slice) k o (omega arith) in
+      let size : length (W s r sl k o) ≡ a = ap length w ∙ length-ring s (areaStart s r sl) a in
       let within : zz a (x % 2 ^ 32) < a = omega (arith, share-lt a x (area-bound two f x .some)) in
       record {
         area-is = sym size;
         inside = rw size within;
-        block-is = rw (size, w) (sym (getD-ring s (start s r sl) a (zz a (x % 2 ^ 32)) within));
+        block-is = rw (size, w) (sym (getD-ring s (areaStart s r sl) a (zz a (x % 2 ^ 32)) within));
       }

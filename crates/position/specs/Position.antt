@@ -15,6 +15,10 @@ firstBlock r sl = cond (eqb r 0 && eqb sl 0) 2 0
 abbrev pub column : ℕ → ℕ → ℕ → ℕ
 column s sl k = sl * s + k
 
+-- a lane with segments of s blocks has block k of this slice
+abbrev pub inLane : ℕ → ℕ → ℕ → Bool
+inLane s sl k = ltb sl slices && ltb k s
+
 -- "The job": the number in memory of a lane's block, where a lane has q blocks: lane times lane length plus column
 abbrev pub inMemory : ℕ → ℕ → ℕ → ℕ
 inMemory q l c = l * q + c
@@ -31,26 +35,26 @@ previousColumn s sl k = cond (eqb (column s sl k) 0) (slices * s - 1) (column s 
 unfoldable pub referenceLane : ℕ → ℕ → ℕ → ℕ → ℕ → ℕ
 referenceLane p r sl l x = cond (eqb r 0 && eqb sl 0) l (x / 2 ^ 32 % p)
 
--- the blocks of the finished segments: slice · s in pass 0, q - s later
-unfoldable pub finished : ℕ → ℕ → ℕ → ℕ
-finished s r sl = cond (eqb r 0) (sl * s) (slices * s - s)
+-- how many blocks the finished segments have: slice · s in pass 0, q - s later
+unfoldable pub finishedLength : ℕ → ℕ → ℕ → ℕ
+finishedLength s r sl = cond (eqb r 0) (sl * s) (slices * s - s)
 
 -- "Area": in the own lane these and the blocks of this segment, but the previous one; in another these, less 1 if k = 0
 unfoldable pub area : ℕ → ℕ → ℕ → ℕ → Bool → ℕ
-area s r sl k own = cond own (finished s r sl + k - 1) (finished s r sl - cond (eqb k 0) 1 0)
+area s r sl k own = cond own (finishedLength s r sl + k - 1) (finishedLength s r sl - cond (eqb k 0) 1 0)
 
 -- with J the low 32 bits, x = floor(J² / 2^32), place = area - 1 - floor(area · x / 2^32)
 unfoldable pub place : ℕ → ℕ → ℕ
 place a x = a - 1 - a * (x % 2 ^ 32 * (x % 2 ^ 32) / 2 ^ 32) / 2 ^ 32
 
 -- (slice + 1) · s in later passes with slice under 3, else 0
-unfoldable pub start : ℕ → ℕ → ℕ → ℕ
-start s r sl = cond (not (eqb r 0) && ltb (sl + 1) slices) ((sl + 1) * s) 0
+unfoldable pub areaStart : ℕ → ℕ → ℕ → ℕ
+areaStart s r sl = cond (not (eqb r 0) && ltb (sl + 1) slices) ((sl + 1) * s) 0
 
 -- the block is (start + place) mod q
 unfoldable pub referenceColumn : ℕ → ℕ → ℕ → ℕ → ℕ → ℕ → ℕ → ℕ
 referenceColumn p s r sl l k x =
-    (start s r sl + place (area s r sl k (eqb (referenceLane p r sl l x) l)) x) % (slices * s)
+    (areaStart s r sl + place (area s r sl k (eqb (referenceLane p r sl l x) l)) x) % (slices * s)
 
 -- the number in memory of the reference block
 abbrev pub reference : ℕ → ℕ → ℕ → ℕ → ℕ → ℕ → ℕ → ℕ

@@ -13,10 +13,10 @@ use Rattle.answer.specs.Answers.{first}
 use Rattle.block.specs.Block.{blockWords}
 use Rattle.params.specs.Limits.{segment, blocks}
 use Rattle.params.specs.declared.Params.{Params}
-use Rattle.position.specs.Address.{addressed, randomWord}
+use Rattle.address.specs.Address.{addressed, randomWord}
 use Rattle.position.specs.Position.{reference}
-use Rattle.position.proofs.AddressFree.{Alike}
-use Rattle.position.proofs.AddressFree.{address-free as reference-address-free}
+use Rattle.address.proofs.AddressFree.{Alike}
+use Rattle.address.proofs.AddressFree.{address-free as reference-address-free}
 use Rattle.argon2.specs.Filling.{previousIndex}
 use Rattle.argon2.specs.Calls.{stepped}
 use Rattle.job.specs.Jobs.{position, complete, consistent, moved, onward, stepRows}

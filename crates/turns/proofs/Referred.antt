@@ -17,7 +17,7 @@ use Rattle.position.proofs.Referring.{ref-lane, ref-column, ref-not-current, re
 use Rattle.argon2.specs.Filling.{previousIndex, wordFor}
 use Rattle.job.specs.Jobs.{position}
 use Rattle.job.specs.declared.Job.{Job}
-use Rattle.argon2.proofs.Filling.{previous-lt}
+use Rattle.position.proofs.Columns.{previous-lt}
 use Rattle.job.proofs.Jobs.{Bounds, inside-bounds}
 use Rattle.job.proofs.Tests.{or-left, or-right, or-second}
 use Rattle.turns.specs.Play.{State, accepts, step, run, writes, refers, startWrites, written}
@@ -158,7 +158,7 @@ module _ (τ : State) (l : ℕ) (h : ReadyFor τ l) where
       ref-column (P .lanes) (segment P) (z .some-lanes) (two z) r sl l k x (h .inside .within) (h .lane) (h .under) (h .inside .low l (h .lane)) in
       let own : referenceLane (P .lanes) r sl l x ≡ l =
       same-lane (segment P) (referenceLane (P .lanes) r sl l x) l (referenceColumn (P .lanes) (segment P) r sl l k x) (previousColumn (segment P) sl k)
-      c (previous-lt (segment P) sl k (two z) (h .inside .within) (h .under)) q in
+      c (previous-lt (segment P) sl k (h .inside .within) (h .under)) q in
       ref-not-previous (P .lanes) (segment P) (z .some-lanes) (two z) r sl l k x (h .inside .within) (h .lane) (h .under) (h .inside .low l (h .lane)) own
       (omega (arith, q, ap (λ (a : ℕ). a * laneLength P) own))
 

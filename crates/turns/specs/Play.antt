@@ -6,7 +6,7 @@ use mathlib.Core.List.{List, [], _∷_, _++_}
 use lib.Dec.{eqb}
 use Rattle.params.specs.Limits.{segment}
 use Rattle.params.specs.declared.Params.{Params}
-use Rattle.position.specs.Address.{addressed}
+use Rattle.address.specs.Address.{addressed}
 use Rattle.position.specs.Position.{index}
 use Rattle.argon2.specs.Calls.{started, stepped}
 use Rattle.argon2.specs.Filling.{currentIndex, referenceIndex}

@@ -5,7 +5,7 @@ use mathlib.Core.Path.{_≡_, refl, ap, _∙_}
 use borrow.Author.Needs.{needs}
 use Rattle.word.specs.Table.{table}
 use Rattle.block.specs.Block.{zeros, compress}
-use Rattle.position.specs.Address.{beginning, addressBlock}
+use Rattle.address.specs.Address.{beginning, addressBlock}
 use Rattle.address.proofs.address_block.Statement.{statement}
 use Rattle.address.proofs.address_block.Tie as tie
 
@@ -27,9 +27,13 @@ returns c =
     let count = c .before .before .before .before .before .before .block-count in
     let a = c .before .before .before .before .before .before .before .before .args in
     let x : ℕ → List ℕ = λ n. beginning (a .pass ∷ a .lane .0 ∷ a .slice ∷ n ∷ a .params .passes ∷ a .params .algorithm ∷ a .counter ∷ []) in
-    twice (x (count .result)) (c .before .before .before .new .result .words) (c .before .before .compress .result .words) (c .before .new2 .result .words) (c .compress2 .result .words)
-    (c .before .before .before .new .ensures .result) (c .before .before .compress .ensures .result) (c .before .new2 .ensures .result) (c .compress2 .ensures .result)
-    ∙ ap (λ (n : ℕ). compress (beginning []) (compress (beginning []) (x n))) (count .ensures .result)
+    record {
+      words = twice (x (count .result)) (c .before .before .before .new .result .words) (c .before .before .compress .result .words)
+          (c .before .new2 .result .words) (c .compress2 .result .words)
+          (c .before .before .before .new .ensures .result) (c .before .before .compress .ensures .result)
+          (c .before .new2 .ensures .result) (c .compress2 .ensures .result)
+          ∙ ap (λ (n : ℕ). compress (beginning []) (compress (beginning []) (x n))) (count .ensures .result);
+    }
 
 pub address-block-spec : {M : Type 1} → statement M
 address-block-spec =

@@ -5,8 +5,8 @@ use mathlib.Core.Path.{_≡_, ap, sym, _∙_}
 use Prim.Native.Nat.{ℕ}
 use Rattle.params.specs.Limits.{segment}
 use Rattle.params.specs.declared.Params.{Params}
-use Rattle.position.specs.Address.{addressed, addressBlock, addressedWord, randomWord}
 use Rattle.position.specs.Position.{reference}
+use Rattle.address.specs.Address.{addressed, addressBlock, addressedWord, randomWord}
 
 -- two parameters with the same costs and algorithm
 pub record Alike (P P′ : Params) : Type 0 where

@@ -1,0 +1,3 @@
+pub mod AddressFree
+pub mod Cases
+pub mod Settled
