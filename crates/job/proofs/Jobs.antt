@@ -20,7 +20,7 @@ use Rattle.position.specs.Position.{firstBlock}
 use Rattle.checks.specs.Rows.{mostTag, outputRows}
 use Rattle.checks.proofs.Tags.{output-fits}
 use Rattle.word.specs.Word.{maxLength}
-use Rattle.job.specs.Jobs.{all, position, tagAllowed, laidOut, complete, standsComplete, unfinished, standsInside, consistent, moved, nextSlice, onward, stepRows, finishRows}
+use Rattle.job.specs.Jobs.{all, position, tagAllowed, laidOut, complete, standsComplete, unfinished, standsInside, consistent, moved, nextSlice, onward, zeroJob, stepRows, finishRows}
 use Rattle.job.specs.declared.Job.{Job}
 use Rattle.job.proofs.Tests.{and-true, and-of, and-false, or-left, or-right, or-second, all-true, all-of, any-of, any-true}
 
@@ -104,6 +104,11 @@ whole : (j : Job) → first (rows (j .params)) ≡ 0 → first (outputRows (j .p
 unfolding consistent
 whole j a b c d =
     and-of (and-of (and-of (eq-eqb (first (rows (j .params))) 0 a) (eq-eqb (first (outputRows (j .params .configured) (j .tag))) 0 b)) c) d
+
+-- the job that a refused start hands back is not
+pub zeros-inconsistent : consistent zeroJob ≡ false
+unfolding consistent zeroJob
+zeros-inconsistent = refl
 
 -- a used lane between the segment's first block and s
 abbrev between : Job → ℕ → Bool

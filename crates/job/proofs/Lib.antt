@@ -1,3 +1,4 @@
+pub mod Exactly
 pub mod Jobs
 pub mod Settled
 pub mod Standing
