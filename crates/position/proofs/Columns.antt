@@ -1,11 +1,13 @@
--- The columns of a lane: a block that the lane has and the one before it lie in the lane, and what the promises of `column` and
--- `previous_column` then come to. For the proofs of the code, and for those of the crates above. Assumes nothing.
+-- The columns of a lane: a block that the lane has and the one before it lie in the lane and follow each other, and what the promises of
+-- `column` and `previous_column` then come to. For the proofs of the code, and for those of the crates above. Assumes nothing.
 use mathlib.Core.Bool.{Bool, true, false, cond, and-eq-true-iff}
-use mathlib.Core.Path.{_≡_, ap, _∙_}
-use Prim.Native.Nat.{ℕ, _-_, _*_, _<_}
+use mathlib.Core.Logic.{_≢_}
+use mathlib.Core.Path.{_≡_, refl, sym, ap, _∙_}
+use Prim.Native.Nat.{ℕ, _+_, _-_, _*_, _%_, _<_}
+use native.Mathlib.Nat.{mod-self, mod-eq-of-lt}
 use native.Mathlib.Omega.{arith}
 use lib.Dec.{ltb, eqb}
-use borrow.Author.Tests.{ltb-true, lt-ltb}
+use borrow.Author.Tests.{eqb-true, eqb-false, ltb-true, lt-ltb}
 use Rattle.params.specs.Limits.{slices, segment}
 use Rattle.params.specs.declared.Params.{Params}
 use Rattle.position.specs.Position.{column, inLane, index, previousColumn}
@@ -34,6 +36,21 @@ module _ (s sl k : ℕ) (four : sl < slices) (inside : k < s) where
       go : (t : Bool) → cond t (slices * s - 1) (column s sl k - 1) < slices * s
       go true = omega arith
       go false = omega (arith, column-lt)
+
+  -- after the previous column comes the column itself, going round
+  pub previous-next : (previousColumn s sl k + 1) % (slices * s) ≡ column s sl k
+  unfolding previousColumn
+  previous-next = go (eqb (column s sl k) 0) refl
+    where
+      go : (t : Bool) → eqb (column s sl k) 0 ≡ t → (previousColumn s sl k + 1) % (slices * s) ≡ column s sl k
+      go true e =
+          let z : column s sl k ≡ 0 = eqb-true (column s sl k) 0 e in
+          let last : previousColumn s sl k + 1 ≡ slices * s = rw e (omega arith) in
+          ap (λ (n : ℕ). n % (slices * s)) last ∙ mod-self (slices * s) ∙ sym z
+      go false e =
+          let n : column s sl k ≢ 0 = eqb-false (column s sl k) 0 e in
+          let next : previousColumn s sl k + 1 ≡ column s sl k = rw e (omega arith) in
+          ap (λ (n : ℕ). n % (slices * s)) next ∙ mod-eq-of-lt column-lt
 
 module _ {P : Params} {sl k : ℕ} {c : BlockNumber} (four : sl < slices) (inside : k < segment P) where
   pub column-is : ColumnPromise P sl k c → c .0 ≡ column (segment P) sl k

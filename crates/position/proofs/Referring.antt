@@ -2,15 +2,16 @@
 -- Assumes nothing.
 use mathlib.Core.Path.{_≡_, refl, sym, ap, _∙_, subst}
 use mathlib.Core.Logic.{_≢_, _⊎_, inl, inr}
-use mathlib.Core.Bool.{Bool, true, false, cond, not, _&&_}
-use Prim.Native.Nat.{ℕ, _+_, _-_, _*_, _/_, _%_, _^_, _≤_, _<_}
+use mathlib.Core.Bool.{Bool, true, false, cond, _&&_}
+use Prim.Native.Nat.{ℕ, _+_, _-_, _*_, _/_, _%_, _≤_, _<_}
 use native.Mathlib.Omega.{arith}
 use native.Mathlib.Nat.{mod-lt, mod-eq-of-lt, mod-eq-sub-mod, mul-le-mul-right}
 use lib.Dec.{ltb, eqb}
 use lib.Arith.{digits-div, digits-lt}
 use borrow.Author.Tests.{ltb-true, ltb-false, eqb-true, eqb-false, eq-eqb, ne-eqb}
 use Rattle.params.specs.Limits.{slices}
-use Rattle.position.specs.Position.{firstBlock, column, index, previousColumn, referenceLane, finishedLength, area, place, areaStart, referenceColumn}
+use Rattle.word.specs.Word.{highHalf}
+use Rattle.position.specs.Position.{firstBlock, index, previousColumn, referenceLane, finishedLength, area, place, areaStart, referenceColumn}
 use Rattle.position.proofs.Lane.{slice-le}
 
 -- a number that goes at most once round
@@ -111,9 +112,9 @@ module _
     unfolding referenceLane
     ref-lane = go (eqb r 0 && eqb sl 0)
       where
-        go : (t : Bool) → cond t l (x / 2 ^ 32 % p) < p
+        go : (t : Bool) → cond t l (highHalf x % p) < p
         go true = lane
-        go false = mod-lt (x / 2 ^ 32) one
+        go false = mod-lt (highHalf x) one
 
     pub ref-column : referenceColumn p s r sl l k x < slices * s
     unfolding referenceColumn
@@ -123,7 +124,7 @@ module _
     -- in the first segment the reference lane is the own lane
     first-own : eqb r 0 && eqb sl 0 ≡ true → referenceLane p r sl l x ≡ l
     unfolding referenceLane
-    first-own e = ap (λ (t : Bool). cond t l (x / 2 ^ 32 % p)) e
+    first-own e = ap (λ (t : Bool). cond t l (highHalf x % p)) e
 
     -- so another lane is referred to only where a segment is finished
     pub not-first : referenceLane p r sl l x ≢ l → eqb r 0 && eqb sl 0 ≡ false

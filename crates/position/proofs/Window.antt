@@ -11,7 +11,7 @@ use lib.ListN.{length, getD}
 use borrow.Author.Tests.{eqb-true, eqb-false, ne-eqb, ltb-true, ltb-false, lt-ltb, le-ltb}
 use Rattle.params.specs.Limits.{slices}
 use Rattle.position.specs.Position.{column, previousColumn, finishedLength, area, place, areaStart, referenceColumn}
-use Rattle.position.specs.Window.{computedSlices, last, blocksOf, finishedBlocks, excluding, currentBlocks, butLast, W, zz}
+use Rattle.position.specs.Window.{computedSlices, blocksOf, finishedBlocks, excluding, currentBlocks, butLast, W, zz}
 use Rattle.position.proofs.Accepted.{Filled}
 use Rattle.position.proofs.Bound.{own, area-bound, share-lt}
 use Rattle.position.proofs.Ring.{last-table, excluding-last, ring, length-ring, getD-ring, ring-append, ring-butLast, ring-round, segment-ring, blocks-ring}

@@ -1,11 +1,12 @@
 -- Document 01, "The rules of filling": where the reference block lies. r is the pass, sl the slice, l the lane, k the block within the
 -- segment; p is the number of lanes and s the segment length; x is the random word. As in RFC 9106, a column is a block's place in its lane.
-use Prim.Native.Nat.{ℕ, _+_, _-_, _*_, _/_, _%_, _^_}
+use Prim.Native.Nat.{ℕ, _+_, _-_, _*_, _/_, _%_}
 use mathlib.Core.Bool.{Bool, cond, not, _&&_}
 use mathlib.Core.List.{List, [], _∷_, _++_}
 use lib.Dec.{leb, ltb, eqb}
 use Rattle.answer.specs.Answers.{Row, _when_}
 use Rattle.params.specs.Limits.{slices, costRows, segmentLength}
+use Rattle.word.specs.Word.{half, lowHalf, highHalf}
 
 -- "The job": the first block of a segment that a step fills, 2 in pass 0, slice 0, else 0
 abbrev pub firstBlock : ℕ → ℕ → ℕ
@@ -33,7 +34,7 @@ previousColumn s sl k = cond (eqb (column s sl k) 0) (slices * s - 1) (column s 
 
 -- "Reference lane": the own lane in pass 0, slice 0; else the high 32 bits mod p
 unfoldable pub referenceLane : ℕ → ℕ → ℕ → ℕ → ℕ → ℕ
-referenceLane p r sl l x = cond (eqb r 0 && eqb sl 0) l (x / 2 ^ 32 % p)
+referenceLane p r sl l x = cond (eqb r 0 && eqb sl 0) l (highHalf x % p)
 
 -- how many blocks the finished segments have: slice · s in pass 0, q - s later
 unfoldable pub finishedLength : ℕ → ℕ → ℕ → ℕ
@@ -45,7 +46,7 @@ area s r sl k own = cond own (finishedLength s r sl + k - 1) (finishedLength s r
 
 -- with J the low 32 bits, x = floor(J² / 2^32), place = area - 1 - floor(area · x / 2^32)
 unfoldable pub place : ℕ → ℕ → ℕ
-place a x = a - 1 - a * (x % 2 ^ 32 * (x % 2 ^ 32) / 2 ^ 32) / 2 ^ 32
+place a x = a - 1 - a * (lowHalf x * lowHalf x / half) / half
 
 -- (slice + 1) · s in later passes with slice under 3, else 0
 unfoldable pub areaStart : ℕ → ℕ → ℕ → ℕ

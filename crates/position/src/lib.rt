@@ -6,9 +6,9 @@ ghost use Rattle.position.specs.Position as spec;
 ghost use Rattle.position.specs.Promises.{FirstBlockPromise, InMemoryPromise, ColumnPromise, PreviousColumnPromise, IndexPromise, ReferencePromise};
 use answer::Answer;
 use params::Params;
-
-// The numbers of 32 bits: a word's high half is what it has of these, its low half what is left.
-const HALF: u64 = 0x1_0000_0000;
+use word::HALF;
+use word::high_half;
+use word::low_half;
 
 // A lane's number.
 pub struct LaneNumber(pub u32);
@@ -106,7 +106,7 @@ fn reference_lane(lanes: u32, pass: u32, slice: u32, lane: LaneNumber, word: u64
     if (pass == 0) & (slice == 0) {
         return lane;
     }
-    LaneNumber((word / HALF % lanes as u64) as u32)
+    LaneNumber((high_half(word) % lanes as u64) as u32)
 }
 
 // How many blocks the finished segments have: slice · s in pass 0, q - s later.
@@ -143,7 +143,7 @@ fn place(area: u64, word: u64) -> u64
     requires { ⌜ (1 ≤ area) × (area ≤ maxMemory) ⌝ }
     ensures { λ r. ⌜ r ≡ spec.place area word ⌝ }
 {
-    let low = word % HALF;
+    let low = low_half(word);
     let x = low * low / HALF;
     area - 1 - area * x / HALF
 }

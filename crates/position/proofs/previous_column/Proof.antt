@@ -1,7 +1,7 @@
 -- `position::previous_column` meets its contract: one column less, or the lane's last. Assumes nothing.
-use Prim.Native.Nat.{ℕ, _-_, _<_}
+use Prim.Native.Nat.{_<_}
 use mathlib.Core.Bool.{true}
-use mathlib.Core.Path.{_≡_, sym, ap, _∙_}
+use mathlib.Core.Path.{_≡_, sym, _∙_}
 use native.Mathlib.Omega.{arith}
 use borrow.Author.Needs.{needs}
 use borrow.Author.Tests.{eq-eqb, ne-eqb, not-true, not-false}
@@ -46,8 +46,8 @@ returns-2 c =
       result = rw (
         has (at .before),
         eq-eqb (column (segment (a .params)) (a .slice) (a .block)) _ (sym (column-is at) ∙ c .before .if2 .taken),
-      )
-          (ap (λ (n : ℕ). n - 1) (c .lane-length .ensures .result));
+        c .lane-length .ensures .result,
+      );
     }
 
 returns-3 : tie.Need-returns-3
@@ -59,8 +59,8 @@ returns-3 c =
       result = rw (
         has (at .before),
         ne-eqb (column (segment (a .params)) (a .slice) (a .block)) _ (λ e. c .if2 .left (column-is at ∙ e)),
-      )
-          (ap (λ (n : ℕ). n - 1) (column-is at));
+        column-is at,
+      );
     }
 
 pub previous-column-spec : {M : Type 1} → statement M
