@@ -1,7 +1,7 @@
 // The initial hash (RFC 9106, 3.2), and the words of the blocks that each lane begins with.
 mod bytes;
 
-use blake2b::State;
+use blake2b::Engine;
 use blake2b_long::blake2b_long;
 use block::Block;
 use bytes::block_of;
@@ -22,10 +22,10 @@ const NUMBER: usize = 4;
 // The numbers of 4 bytes.
 const COUNTS: usize = 0x1_0000_0000;
 
-const FIRST_INPUT: usize = State::MAX_OUTPUT + 2 * NUMBER;
+const FIRST_INPUT: usize = Engine::MAX_OUTPUT + 2 * NUMBER;
 
 // The state after a number, 4 bytes little-endian.
-fn feed_number(state: State, n: u32) -> State
+fn feed_number(state: Engine, n: u32) -> Engine
     ensures { λ r. ⌜ r ≡ feedAll state (le32 n) ⌝ }
 {
     let bytes = to_le32(n);
@@ -33,14 +33,14 @@ fn feed_number(state: State, n: u32) -> State
 }
 
 // The state after a count, of which 4 bytes are kept.
-fn feed_count(state: State, n: usize) -> State
+fn feed_count(state: Engine, n: usize) -> Engine
     ensures { λ r. ⌜ r ≡ feedAll state (le32 n) ⌝ }
 {
     feed_number(state, (n % COUNTS) as u32)
 }
 
 // The state after the count of some bytes, and the bytes.
-fn feed_counted(state: State, bytes: &[u8]) -> State
+fn feed_counted(state: Engine, bytes: &[u8]) -> Engine
     ensures { λ r. ⌜ r ≡ feedAll state (counted (now (bytes .entry))) ⌝ }
 {
     let s = feed_count(state, bytes.len());
@@ -48,7 +48,7 @@ fn feed_counted(state: State, bytes: &[u8]) -> State
 }
 
 // The state after the numbers: lanes, tag length, memory cost, passes, version, algorithm.
-fn feed_header(state: State, params: Params, tag: usize) -> State
+fn feed_header(state: Engine, params: Params, tag: usize) -> Engine
     ensures { λ r. ⌜ r ≡ feedAll state (header params tag) ⌝ }
 {
     let memory = params.memory;
@@ -68,7 +68,7 @@ pub fn initial_hash(
     salt: &[u8],
     secret: &[u8],
     ad: &[u8],
-) -> [u8; State::MAX_OUTPUT]
+) -> [u8; Engine::MAX_OUTPUT]
     ensures { λ r. ⌜ r
         ≡ initialHash
         params
@@ -78,7 +78,7 @@ pub fn initial_hash(
         (now (secret .entry))
         (now (ad .entry)) ⌝ }
 {
-    let s = State::begin(State::MAX_OUTPUT);
+    let s = Engine::begin(Engine::initial(Engine::MAX_OUTPUT));
     let s = feed_header(s, params, tag);
     let s = feed_counted(s, password);
     let s = feed_counted(s, salt);
@@ -89,7 +89,7 @@ pub fn initial_hash(
 
 // What a first block is hashed from: the initial hash, the block's number and the lane's.
 fn first_input(
-    h: [u8; State::MAX_OUTPUT],
+    h: [u8; Engine::MAX_OUTPUT],
     lane: LaneNumber,
     block: BlockNumber,
 ) -> [u8; FIRST_INPUT]
@@ -99,13 +99,13 @@ fn first_input(
     let of_block = to_le32(block.0);
     let of_lane = to_le32(lane.0);
     lay(&mut input, 0, &h);
-    lay(&mut input, State::MAX_OUTPUT, &of_block);
-    lay(&mut input, State::MAX_OUTPUT + NUMBER, &of_lane);
+    lay(&mut input, Engine::MAX_OUTPUT, &of_block);
+    lay(&mut input, Engine::MAX_OUTPUT + NUMBER, &of_lane);
     input
 }
 
 // A first block of a lane: the variable-length hash of that, as words.
-pub fn first_block_of(h: [u8; State::MAX_OUTPUT], lane: LaneNumber, block: BlockNumber) -> Block
+pub fn first_block_of(h: [u8; Engine::MAX_OUTPUT], lane: LaneNumber, block: BlockNumber) -> Block
     ensures { λ r. ⌜ r .words ≡ firstWords h (lane .0) (block .0) ⌝ }
 {
     let input = first_input(h, lane, block);

@@ -79,3 +79,11 @@ pub store-out : (b o : List ℕ) (i : ℕ) → i ≡ length b → i ≤ length o
 store-out b o i e h =
     ap (λ (l : List ℕ). l ++ drop i o) (take-all i b (omega arith) ∙ sym (take-all (length o) b (omega arith)))
     ∙ ap (λ (k : ℕ). take (length o) b ++ drop k o) e
+
+-- words whose bytes fill the store
+pub store-whole : (w o : List ℕ) {o′ : List ℕ} → wordBytes * length w ≡ length o → o′ ≡ take (length o) (bytes w) ++ drop (wordBytes * length w) o → o′ ≡ bytes w
+store-whole w o l e =
+    e
+    ∙ ap (λ (r : List ℕ). take (length o) (bytes w) ++ r) (drop-of-length-le o {i = wordBytes * length w} (omega arith))
+    ∙ append-nil (take (length o) (bytes w))
+    ∙ take-all (length o) (bytes w) (omega (arith, length-bytes w))
