@@ -1,6 +1,6 @@
 // The blocks that each lane begins with.
 use crate::blocks::write_block;
-use blake2b::State;
+use blake2b::Engine;
 use initial::first_words;
 use params::Params;
 use position::BlockNumber;
@@ -13,7 +13,7 @@ ghost use Rattle.argon2.specs.Start.{startLane, startMemory};
 ghost use Rattle.argon2.specs.Inner.{Lent};
 
 // Blocks 0 and 1 of a lane written; every other block stays.
-fn start_lane(words: &mut [u64], params: Params, h: [u8; State::MAX_OUTPUT], lane: LaneNumber)
+fn start_lane(words: &mut [u64], params: Params, h: [u8; Engine::MAX_OUTPUT], lane: LaneNumber)
     requires { ⌜ Lent params (length (now words)) × (lane .0 < params .lanes) ⌝ }
     ensures { λ _. ⌜ now (words .exit) ≡ startLane h (segment params) (lane .0) (now (words .entry)) ⌝ }
 {
@@ -29,7 +29,7 @@ fn start_lane(words: &mut [u64], params: Params, h: [u8; State::MAX_OUTPUT], lan
 }
 
 // Blocks 0 and 1 of every lane written; every other block stays.
-pub(crate) fn first_blocks(words: &mut [u64], params: Params, h: [u8; State::MAX_OUTPUT])
+pub(crate) fn first_blocks(words: &mut [u64], params: Params, h: [u8; Engine::MAX_OUTPUT])
     requires { ⌜ Lent params (length (now words)) ⌝ }
     ensures { λ _. ⌜ now (words .exit)
         ≡ startMemory h (params .lanes) (segment params) (now (words .entry)) ⌝ }

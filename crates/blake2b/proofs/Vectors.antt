@@ -4,7 +4,8 @@ use mathlib.Core.List.{List, [], _∷_}
 use mathlib.Core.Path.{_≡_, refl}
 use Rattle.word.specs.Table.{table}
 use Rattle.word.specs.Word.{rotr, numberAt, wordsOf}
-use Rattle.blake2b.specs.Blake2b.{row, sum, turn, G, round, mixed, flips, local, fold, F, pad, block, initial, chain, before, final, blake2b}
+use Rattle.blake2b_compression.specs.Compression.{row, sum, turn, G, round, mixed, flips, local, fold, F}
+use Rattle.blake2b.specs.Blake2b.{pad, block, initial, chain, before, final, blake2b}
 
 -- the bytes 0, 1, 2, .., n - 1
 abbrev counting : ℕ → List ℕ

@@ -3,7 +3,8 @@ use mathlib.Core.List.{List, [], _∷_}
 use mathlib.Core.Path.{_≡_, refl}
 use Prim.Native.Nat.{ℕ}
 use lib.ListN.{replicate}
-use Rattle.blake2b.specs.Blake2b.{row, sum, turn, G, round, mixed, flips, local, fold, F, pad, block, initial, chain, before, final, blake2b}
+use Rattle.blake2b_compression.specs.Compression.{row, sum, turn, G, round, mixed, flips, local, fold, F}
+use Rattle.blake2b.specs.Blake2b.{pad, block, initial, chain, before, final, blake2b}
 use Rattle.word.specs.Table.{table}
 use Rattle.word.specs.Word.{rotr, numberAt, wordsOf}
 use Rattle.params.specs.Limits.{d, i, id, v13}

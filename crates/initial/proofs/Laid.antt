@@ -1,21 +1,10 @@
 -- Pieces laid one after another: what was laid so far stands at the front. Assumes nothing.
-use mathlib.Core.List.{List, [], _++_, append-nil, append-assoc}
+use mathlib.Core.List.{List, _++_}
 use mathlib.Core.Path.{_≡_, refl, sym, ap, _∙_}
-use Prim.Native.Nat.{ℕ, _+_, _-_, _≤_}
+use Prim.Native.Nat.{ℕ, _+_, _≤_}
 use native.Mathlib.Omega.{arith}
-use lib.ListN.{length, take, drop, length-append, length-take, length-drop, drop-of-length-le}
-use lib.Seq.{take-at, take-all, length-take-le, drop-drop}
-
--- a copy into the part of o from a place on
-pub copied-at : (o p q : List ℕ) (at : ℕ) → at + length p ≤ length o
-    → q ≡ take (length p) p ++ drop (length p) (take (length o - at) (drop at o))
-    → take at o ++ (q ++ drop (length o - at) (drop at o)) ≡ take at o ++ p ++ drop (at + length p) o
-copied-at o p q at fits e =
-    let rest : length (drop at o) ≡ length o - at = length-drop at o in
-    let none : drop (length o - at) (drop at o) ≡ [] = drop-of-length-le (drop at o) {i = length o - at} (omega (arith, rest)) in
-    let all : take (length o - at) (drop at o) ≡ drop at o = take-all (length o - at) (drop at o) (omega (arith, rest)) in
-    let whole : take (length p) p ≡ p = take-all (length p) p (omega arith) in
-    rw (none, e, all, whole, append-nil, drop-drop (length p) at o) (sym (append-assoc (take at o) p (drop (at + length p) o)))
+use lib.ListN.{length, take, drop, length-append, length-take, length-drop}
+use lib.Seq.{take-at, take-all, length-take-le}
 
 -- a piece p laid at a place of o
 module _ (o p : List ℕ) (at : ℕ) {o′ : List ℕ} (fits : at + length p ≤ length o) (lay : o′ ≡ take at o ++ p ++ drop (at + length p) o) where

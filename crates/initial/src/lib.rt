@@ -1,10 +1,11 @@
 // The initial hash (RFC 9106, 3.2), and the words of the blocks that each lane begins with.
-use blake2b::State;
+use blake2b::Engine;
 use blake2b_long::blake2b_long;
 use block::Block;
 use params::Params;
 use position::BlockNumber;
 use position::LaneNumber;
+use word::HALF;
 use word::to_le32;
 ghost use mathlib.Core.List.{_++_};
 ghost use mathlib.Core.Path.{_≡_};
@@ -18,12 +19,12 @@ ghost use Rattle.initial.specs.Promises.{InitialHashPromise, FirstWordsP
 const NUMBER: usize = 4;
 
 // The numbers of 4 bytes.
-const COUNTS: usize = 0x1_0000_0000;
+const COUNTS: usize = HALF as usize;
 
-const FIRST_INPUT: usize = State::MAX_OUTPUT + 2 * NUMBER;
+const FIRST_INPUT: usize = Engine::MAX_OUTPUT + 2 * NUMBER;
 
 // The state after a number, 4 bytes little-endian.
-fn feed_number(state: State, n: u32) -> State
+fn feed_number(state: Engine, n: u32) -> Engine
     ensures { λ r. ⌜ r ≡ feedAll state (le32 n) ⌝ }
 {
     let bytes = to_le32(n);
@@ -31,14 +32,14 @@ fn feed_number(state: State, n: u32) -> State
 }
 
 // The state after a count, of which 4 bytes are kept.
-fn feed_count(state: State, n: usize) -> State
+fn feed_count(state: Engine, n: usize) -> Engine
     ensures { λ r. ⌜ r ≡ feedAll state (le32 n) ⌝ }
 {
     feed_number(state, (n % COUNTS) as u32)
 }
 
 // The state after the count of some bytes, and the bytes.
-fn feed_counted(state: State, bytes: &[u8]) -> State
+fn feed_counted(state: Engine, bytes: &[u8]) -> Engine
     ensures { λ r. ⌜ r ≡ feedAll state (counted (now (bytes .entry))) ⌝ }
 {
     let s = feed_count(state, bytes.len());
@@ -46,7 +47,7 @@ fn feed_counted(state: State, bytes: &[u8]) -> State
 }
 
 // The state after the numbers: lanes, tag length, memory cost, passes, version, algorithm.
-fn feed_header(state: State, params: Params, tag: usize) -> State
+fn feed_header(state: Engine, params: Params, tag: usize) -> Engine
     ensures { λ r. ⌜ r ≡ feedAll state (header params tag) ⌝ }
 {
     let memory = params.memory;
@@ -66,10 +67,10 @@ pub fn initial_hash(
     salt: &[u8],
     secret: &[u8],
     ad: &[u8],
-) -> [u8; State::MAX_OUTPUT]
+) -> [u8; Engine::MAX_OUTPUT]
     ensures { λ r. ⌜ InitialHashPromise params tag (now (password .entry)) (now (salt .entry)) (now (secret .entry)) (now (ad .entry)) r ⌝ }
 {
-    let s = State::begin(State::MAX_OUTPUT);
+    let s = Engine::begin(Engine::initial(Engine::MAX_OUTPUT));
     let s = feed_header(s, params, tag);
     let s = feed_counted(s, password);
     let s = feed_counted(s, salt);
@@ -91,7 +92,7 @@ fn lay(out: &mut [u8], at: usize, piece: &[u8])
 
 // What a first block is hashed from: the initial hash, the block's number and the lane's.
 fn first_input(
-    h: [u8; State::MAX_OUTPUT],
+    h: [u8; Engine::MAX_OUTPUT],
     lane: LaneNumber,
     block: BlockNumber,
 ) -> [u8; FIRST_INPUT]
@@ -101,13 +102,13 @@ fn first_input(
     let of_block = to_le32(block.0);
     let of_lane = to_le32(lane.0);
     lay(&mut input, 0, &h);
-    lay(&mut input, State::MAX_OUTPUT, &of_block);
-    lay(&mut input, State::MAX_OUTPUT + NUMBER, &of_lane);
+    lay(&mut input, Engine::MAX_OUTPUT, &of_block);
+    lay(&mut input, Engine::MAX_OUTPUT + NUMBER, &of_lane);
     input
 }
 
 // A first block of a lane: the variable-length hash of that, as words.
-pub fn first_words(h: [u8; State::MAX_OUTPUT], lane: LaneNumber, block: BlockNumber) -> Block
+pub fn first_words(h: [u8; Engine::MAX_OUTPUT], lane: LaneNumber, block: BlockNumber) -> Block
     ensures { λ r. ⌜ FirstWordsPromise h lane block r ⌝ }
 {
     let input = first_input(h, lane, block);

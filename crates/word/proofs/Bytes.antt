@@ -80,9 +80,10 @@ store-out b o i e h =
     ap (λ (l : List ℕ). l ++ drop i o) (take-all i b (omega arith) ∙ sym (take-all (length o) b (omega arith)))
     ∙ ap (λ (k : ℕ). take (length o) b ++ drop k o) e
 
--- a store that the bytes fill holds just them
-pub store-whole : (w o : List ℕ) → length o ≡ wordBytes * length w → take (length o) (bytes w) ++ drop (wordBytes * length w) o ≡ bytes w
-store-whole w o e =
-    ap (λ (l : List ℕ). take (length o) (bytes w) ++ l) (drop-of-length-le o {i = wordBytes * length w} (omega arith))
+-- words whose bytes fill the store
+pub store-whole : (w o : List ℕ) {o′ : List ℕ} → wordBytes * length w ≡ length o → o′ ≡ take (length o) (bytes w) ++ drop (wordBytes * length w) o → o′ ≡ bytes w
+store-whole w o l e =
+    e
+    ∙ ap (λ (r : List ℕ). take (length o) (bytes w) ++ r) (drop-of-length-le o {i = wordBytes * length w} (omega arith))
     ∙ append-nil (take (length o) (bytes w))
     ∙ take-all (length o) (bytes w) (omega (arith, length-bytes w))

@@ -1,14 +1,13 @@
 -- `initial::lay` meets its contract: the copy fills a part that begins at the place. Assumes nothing.
 use borrow.Author.Needs.{needs}
-use Rattle.initial.proofs.Laid.{copied-at}
+use Rattle.word.proofs.Copied.{copied-part}
 use Rattle.initial.proofs.lay.Statement.{statement}
 use Rattle.initial.proofs.lay.Tie as tie
 
 returns : tie.Need-returns
 returns c =
-    let copy = c .before .before .copy in
     let a = c .before .before .before .before .before .before .args in
-    copied-at (a .out .now) (a .piece .now) (copy .last .1 .0) (a .at) (c .before .before .before .before .before .before .pre) (copy .ensures .1)
+    copied-part (a .piece .now) (a .out .now) (a .at) (c .before .before .copy .ensures .1)
 
 pub lay-spec : {M : Type 1} → statement M
 lay-spec =

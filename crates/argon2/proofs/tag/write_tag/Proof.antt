@@ -3,8 +3,11 @@ use mathlib.Core.Path.{sym, ap, _∙_}
 use native.Mathlib.Omega.{arith}
 use borrow.Author.Needs.{needs}
 use lib.ListN.{length}
-use Rattle.word.specs.Word.{bytes}
-use Rattle.blake2b.proofs.Outputs.{within, if-accepted}
+use borrow.Author.Tests.{le-ltb}
+use Rattle.answer.specs.Answers.{lengthRows}
+use Rattle.answer.proofs.Answered.{left-new}
+use Rattle.answer.proofs.Rows.{accepted}
+use Rattle.word.specs.Word.{bytes, maxLength}
 use Rattle.blake2b_long.specs.Long.{long}
 use Rattle.argon2.specs.Argon2.{tagOf}
 use Rattle.argon2.proofs.tag.write_tag.Statement.{statement}
@@ -18,7 +21,7 @@ returns c =
     let start = whole .before .before .before .before in
     let n = length (start .args .out .now) in
     hash .blake2b-long .ensures .output
-    ∙ sym (if-accepted _ _ _ (sym (within _ n (λ e. omega (arith, start .pre .1)) (start .pre .2))))
+    ∙ left-new _ _ _ (accepted (lengthRows 1 maxLength n) (le-ltb n 1 (omega (arith, start .pre .1)), (le-ltb maxLength n (start .pre .2), tt)))
     ∙ ap (long n) (whole .to-bytes .ensures .result ∙ ap bytes (whole .before .last-blocks .ensures))
 
 pub write-tag-spec : {M : Type 1} → statement M

@@ -1,5 +1,5 @@
 -- `block::Block::to_bytes` meets its contract: the bytes fill the array. Assumes nothing.
-use mathlib.Core.Path.{_≡_, _∙_}
+use mathlib.Core.Path.{_≡_}
 use native.Mathlib.Omega.{arith}
 use borrow.Author.Needs.{needs}
 use Prim.Native.Nat.{ℕ, _*_}
@@ -16,8 +16,8 @@ returns c =
     let w = c .before .before .before .before .before .args .self .words in
     let full : length w ≡ blockWords = search needs in
     let room : List ℕ = replicate blockBytes 0 in
-    let fits : length room ≡ wordBytes * length w = omega (arith, full) in
-    record { result = c .before .store-words .ensures .output ∙ store-whole w room fits }
+    let fits : wordBytes * length w ≡ length room = omega (arith, full) in
+    record { result = store-whole w room fits (c .before .store-words .ensures .output) }
 
 pub to-bytes-spec : {M : Type 1} → statement M
 to-bytes-spec = tie.close (tie.spec (λ c. search needs) (λ c. search needs) (λ c κs. search needs) returns)
