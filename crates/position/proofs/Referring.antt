@@ -15,7 +15,7 @@ use Rattle.position.specs.Position.{firstBlock, index, previousColumn, r
 use Rattle.position.proofs.Lane.{slice-le}
 
 -- a number that goes at most once round
-mod-once : (n q : ℕ) → n < q + q → ((n % q ≡ n) × (n < q)) ⊎ ((n % q + q ≡ n) × (q ≤ n))
+pub mod-once : (n q : ℕ) → n < q + q → ((n % q ≡ n) × (n < q)) ⊎ ((n % q + q ≡ n) × (q ≤ n))
 mod-once n q h = go (ltb n q) refl
   where
     go : (t : Bool) → ltb n q ≡ t → ((n % q ≡ n) × (n < q)) ⊎ ((n % q + q ≡ n) × (q ≤ n))

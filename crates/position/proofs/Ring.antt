@@ -1,10 +1,10 @@
 -- Columns that follow each other, going round the lane: the shape of every part of the window. Laws on tables first. Assumes nothing.
 use mathlib.Core.Bool.{Bool, cond}
 use mathlib.Core.List.{List, [], _∷_, _++_}
-use mathlib.Core.Logic.{_≢_}
+use mathlib.Core.Logic.{_≢_, _⊎_, inl, inr}
 use mathlib.Core.Path.{_≡_, refl, sym, ap, _∙_}
 use Prim.Native.Nat.{ℕ, zero, suc, _+_, _-_, _*_, _%_, _≤_, _<_}
-use native.Mathlib.Nat.{le-refl, mod-add-mod}
+use native.Mathlib.Nat.{le-refl, mod-lt, mod-add-mod}
 use native.Mathlib.Omega.{arith}
 use lib.Arith.{digits-div, digits-mod, mod-mul}
 use lib.ListN.{length, getD, take, drop}
@@ -12,6 +12,7 @@ use borrow.Author.Tests.{eq-eqb, ne-eqb}
 use Rattle.params.specs.Limits.{slices}
 use Rattle.position.specs.Position.{column}
 use Rattle.position.specs.Window.{blocksOf, excluding, last, butLast}
+use Rattle.position.proofs.Referring.{mod-once}
 use Rattle.word.specs.Table.{table}
 use Rattle.word.proofs.Table.{length-table, getD-table, same-table, table-append, drop-table, take-table}
 
@@ -55,6 +56,41 @@ ring-append s c n m =
 pub ring-butLast : (s c n : ℕ) → butLast (ring s c n) ≡ ring s c (n - 1)
 unfolding ring
 ring-butLast s c n = butLast-table (λ i. (c + i) % (slices * s)) n
+
+-- one column more
+ring-last : (s c n : ℕ) → ring s c (n + 1) ≡ ring s c n ++ ((c + n) % (slices * s) ∷ [])
+unfolding ring table
+ring-last s c n =
+    let here : c + n + 0 ≡ c + n = omega arith in
+    sym (ring-append s c n 1) ∙ ap (λ (z : ℕ). ring s c n ++ (z % (slices * s) ∷ [])) here
+
+-- columns less than a lane apart are not the same
+differ : (q a d : ℕ) → 1 ≤ d → d < q → a % q ≢ (a + d) % q
+differ q a d some few e = go (mod-once (b + d) q (omega (arith, small)))
+  where
+    b : ℕ
+    b = a % q
+
+    small : b < q
+    small = mod-lt a (omega arith)
+
+    same : (b + d) % q ≡ b
+    same = mod-add-mod a q d ∙ sym e
+
+    go : (((b + d) % q ≡ b + d) × (b + d < q)) ⊎ (((b + d) % q + q ≡ b + d) × (q ≤ b + d)) → ⊥
+    go (inl m) = omega (arith, same)
+    go (inr m) = omega (arith, same)
+
+-- columns that do not go all round, without their last one
+pub ring-excluding : (s c n : ℕ) → n < slices * s → excluding ((c + n) % (slices * s)) (ring s c (n + 1)) ≡ ring s c n
+ring-excluding s c n h =
+    ap (λ (l : List ℕ). excluding ((c + n) % (slices * s)) l) (ring-last s c n)
+    ∙ excluding-last ((c + n) % (slices * s)) (ring s c n)
+    (λ i b e.
+    let i′ : i < n = omega (arith, length-ring s c n) in
+    let apart : c + i + (n - i) ≡ c + n = omega arith in
+    differ (slices * s) (c + i) (n - i) (omega arith) (omega arith)
+    (sym (getD-ring s c n i i′) ∙ e ∙ ap (λ (z : ℕ). z % (slices * s)) (sym apart)))
 
 -- the first column may be told going round
 pub ring-round : (s c c′ n : ℕ) → c % (slices * s) ≡ c′ % (slices * s) → ring s c n ≡ ring s c′ n

@@ -1,6 +1,6 @@
 -- `address::address_block` meets its contract: the stores make the block that begins with the seven numbers. Assumes nothing.
 use Prim.Native.Nat.{ℕ}
-use mathlib.Core.List.{List, [], _∷_}
+use mathlib.Core.List.{List, []}
 use mathlib.Core.Path.{_≡_, refl, ap, _∙_}
 use borrow.Author.Needs.{needs}
 use Rattle.word.specs.Table.{table}
@@ -25,14 +25,12 @@ returns : tie.Need-returns
 unfolding addressBlock
 returns c =
     let count = c .before .before .before .before .before .before .block-count in
-    let a = c .before .before .before .before .before .before .before .before .args in
-    let x : ℕ → List ℕ = λ n. beginning (a .pass ∷ a .lane .0 ∷ a .slice ∷ n ∷ a .params .passes ∷ a .params .algorithm ∷ a .counter ∷ []) in
     record {
-      words = twice (x (count .result)) (c .before .before .before .new .result .words) (c .before .before .compress .result .words)
+      words = twice _ (c .before .before .before .new .result .words) (c .before .before .compress .result .words)
           (c .before .new2 .result .words) (c .compress2 .result .words)
           (c .before .before .before .new .ensures .result) (c .before .before .compress .ensures .result)
           (c .before .new2 .ensures .result) (c .compress2 .ensures .result)
-          ∙ ap (λ (n : ℕ). compress (beginning []) (compress (beginning []) (x n))) (count .ensures .result);
+          ∙ rw (count .ensures .result);
     }
 
 pub address-block-spec : {M : Type 1} → statement M
