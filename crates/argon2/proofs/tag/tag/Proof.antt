@@ -21,7 +21,7 @@ returns c =
     let start = whole .before .before .before .before in
     let n = length (start .args .out .now) in
     hash .blake2b-long .ensures .output
-    ∙ left-new _ _ _ (accepted (lengthRows 1 maxLength n) (le-ltb n 1 (omega (arith, start .pre .1)), le-ltb maxLength n (start .pre .2), tt))
+    ∙ left-new _ _ _ (accepted (lengthRows 1 maxLength n) (le-ltb n 1 (omega (arith, start .pre .1)), (le-ltb maxLength n (start .pre .2), tt)))
     ∙ ap (long n) (whole .bytes-of .ensures ∙ ap bytes (whole .before .last-blocks .ensures))
 
 pub tag-spec : {M : Type 1} → statement M
