@@ -1,3 +1,4 @@
+pub mod Answered
 pub mod Number
 pub mod Rows
 pub mod Settled

@@ -2,7 +2,7 @@
 use Prim.Native.Nat.{ℕ}
 use mathlib.Core.Bool.{Bool, cond}
 use mathlib.Core.List.{List, [], _∷_}
-use lib.Dec.{eqb}
+use lib.Dec.{ltb, eqb}
 use Rattle.answer.specs.declared.Answer.{Answer}
 use Rattle.answer.specs.declared.Answer.the-variants.{Accepted, AlgorithmInvalid, VersionInvalid, ThreadsTooFew, ThreadsTooMany, MemoryTooSmall, MemoryTooMuch, TimeTooSmall, TagTooShort, AdTooLong, SecretTooLong, OutputTooShort, OutputTooLong, PwdTooLong, SaltTooShort, SaltTooLong, MemoryTooLittle, Inconsistent, Complete, NoSuchLane, LaneFinished, NotComplete}
 
@@ -44,3 +44,15 @@ first ((n when test) ∷ rows) = cond test n (first rows)
 -- what is left by an answer of this number: the new value if it is accepted; a refusal leaves the old one
 abbrev pub ifAccepted : {A : Type 0} → ℕ → A → A → A
 ifAccepted n new old = cond (eqb n 0) new old
+
+-- 11: OutputTooShort
+abbrev pub outputTooShort : ℕ → ℕ → Row
+outputTooShort least n = 11 when ltb n least
+
+-- 12: OutputTooLong
+abbrev pub outputTooLong : ℕ → ℕ → Row
+outputTooLong most n = 12 when ltb most n
+
+-- 11 and 12, for an output of n bytes that may have from least to most
+abbrev pub lengthRows : ℕ → ℕ → ℕ → List Row
+lengthRows least most n = outputTooShort least n ∷ outputTooLong most n ∷ []

@@ -1,5 +1,5 @@
 // Document 01's table of answers.
-ghost use Rattle.answer.specs.Promises.{NumberPromise};
+ghost use Rattle.answer.specs.Promises.{NumberPromise, CheckLengthPromise};
 
 pub enum Answer {
     Accepted,
@@ -56,4 +56,17 @@ impl Answer {
             Answer::NotComplete => 21,
         }
     }
+}
+
+// Rows 11 and 12, for an output of n bytes that may have from least to most.
+pub fn check_length(least: usize, most: usize, n: usize) -> Answer
+    ensures { λ r. ⌜ CheckLengthPromise least most n r ⌝ }
+{
+    if n < least {
+        return Answer::OutputTooShort;
+    }
+    if most < n {
+        return Answer::OutputTooLong;
+    }
+    Answer::Accepted
 }

@@ -1,38 +1,24 @@
--- Filling a block writes that block alone: where the block, the previous one and any other lie in memory, that the memory stays as long,
+-- Filling a block writes that block alone: where any block lies in memory, that the memory stays as long,
 -- what the block then holds, and that every other word is as it was. Assumes nothing.
 use mathlib.Core.Path.{_≡_}
 use mathlib.Core.Logic.{_≢_}
 use mathlib.Core.Bool.{Bool, true, false, cond}
 use mathlib.Core.List.{List}
-use Prim.Native.Nat.{ℕ, _+_, _-_, _*_, _/_, _≤_, _<_}
+use Prim.Native.Nat.{ℕ, _+_, _*_, _/_, _≤_, _<_}
 use native.Mathlib.Omega.{arith}
-use lib.Dec.{eqb}
-use lib.Bits.{bitXor}
 use lib.ListN.{length, getD}
-use Rattle.word.proofs.Table.{length-table}
-use Rattle.block.specs.Block.{blockWords, xors, compress, columns, rows}
+use Rattle.block.specs.Block.{blockWords, xors, compress}
+use Rattle.block.proofs.Laws.{length-xors, length-compress}
 use Rattle.params.specs.Limits.{slices, segment, laneLength, blocks}
 use Rattle.params.specs.declared.Params.{Params}
-use Rattle.position.specs.Address.{addressed, addressBlock, addressCounter, addressPlace, addressedWord, randomWord}
-use Rattle.position.specs.Position.{column, index, previousColumn, reference}
-use Rattle.position.proofs.Referring.{segments, index-lt}
-use Rattle.argon2.specs.Filling.{currentIndex, previousIndex, wordFor, referenceIndex, newBlock, overwrites, storedBlock, fill}
-use Rattle.argon2.specs.Inner.{Has, stored}
-use Rattle.argon2.specs.Memory.{block}
+use Rattle.address.specs.Address.{addressed, addressBlock, addressCounter, addressPlace, addressedWord, randomWord}
+use Rattle.position.specs.Position.{column, index, reference}
+use Rattle.position.proofs.Columns.{column-lt}
+use Rattle.position.proofs.Referring.{index-lt}
+use Rattle.argon2.specs.Filling.{currentIndex, previousIndex, wordFor, referenceIndex, newBlock, overwrites, stored, storedBlock, fill}
+use Rattle.argon2.specs.Inner.{Has}
+use Rattle.argon2.specs.Memory.{block, put}
 use Rattle.argon2.proofs.Memory.{length-put, block-put-same, put-outside}
-
--- a block of s blocks in a slice, and the one before it, lie in the lane
-module _ (s sl k : ℕ) (two : 2 ≤ s) (four : sl < slices) (inside : k < s) where
-  pub column-lt : column s sl k < slices * s
-  column-lt = omega (arith, segments s 0 sl two four)
-
-  pub previous-lt : previousColumn s sl k < slices * s
-  unfolding previousColumn
-  previous-lt = go (eqb (column s sl k) 0)
-    where
-      go : (t : Bool) → cond t (slices * s - 1) (column s sl k - 1) < slices * s
-      go true = omega arith
-      go false = omega (arith, column-lt)
 
 -- a lane's block lies in a memory of all the blocks
 pub has-at : (P : Params) (words : ℕ) → blockWords * blocks P ≤ words → (l c : ℕ) → l < P .lanes → c < laneLength P
@@ -44,22 +30,14 @@ pub fits-at : (P : Params) (w : List ℕ) → blockWords * blocks P ≤ length w
 fits-at P w fits l c hl hc = has-at P (length w) fits l c hl hc
 
 -- a block is stored whole
-pub xors-length : (x y : List ℕ) → length (xors x y) ≡ blockWords
-unfolding xors
-xors-length x y = length-table (λ n. bitXor (getD x n 0) (getD y n 0)) blockWords
-
-pub compress-length : (x y : List ℕ) → length (compress x y) ≡ blockWords
-unfolding compress
-compress-length x y = xors-length (columns (rows (xors x y))) (xors x y)
-
 pub stored-length : (P : Params) (r sl l k : ℕ) (w : List ℕ) → length (storedBlock P r sl l k w) ≡ blockWords
 unfolding storedBlock newBlock
 stored-length P r sl l k w = go (overwrites P r)
   where
     go : (t : Bool)
         → length (cond t (newBlock P r sl l k w) (xors (block (currentIndex P sl l k) w) (newBlock P r sl l k w))) ≡ blockWords
-    go true = compress-length (block (previousIndex P sl l k) w) (block (referenceIndex P r sl l k w) w)
-    go false = xors-length (block (currentIndex P sl l k) w) (newBlock P r sl l k w)
+    go true = length-compress (block (previousIndex P sl l k) w) (block (referenceIndex P r sl l k w) w)
+    go false = length-xors (block (currentIndex P sl l k) w) (newBlock P r sl l k w)
 
 module _
     (P : Params) (two : 2 ≤ segment P) (r sl l k : ℕ) (four : sl < slices) (lane : l < P .lanes) (inside : k < segment P)
@@ -67,7 +45,7 @@ module _
   where
     -- the block lies in the memory
     pub room : blockWords * currentIndex P sl l k + blockWords ≤ length w
-    room = fits-at P w fits l (column (segment P) sl k) lane (column-lt (segment P) sl k two four inside)
+    room = fits-at P w fits l (column (segment P) sl k) lane (column-lt (segment P) sl k four inside)
 
     -- the memory stays as long
     pub fill-length : length (fill P r sl l k w) ≡ length w
@@ -99,6 +77,6 @@ word-dependent P r sl l k w e = rw e
 module _ (P : Params) (r sl l k : ℕ) (w : List ℕ) (x before from at : ℕ) (previous referred new : List ℕ) where
   pub fill-parts : x ≡ wordFor P r sl l k w → before ≡ previousIndex P sl l k → from ≡ reference (P .lanes) (segment P) r sl l k x
       → at ≡ currentIndex P sl l k → previous ≡ block before w → referred ≡ block from w → new ≡ compress previous referred
-      → stored P r at new w ≡ fill P r sl l k w
+      → put at (stored P r (block at w) new) w ≡ fill P r sl l k w
   unfolding fill storedBlock newBlock
   fill-parts ex eb ef ea ep er en = rw (en, ep, er, ea, eb, ef, ex)

@@ -11,10 +11,11 @@ use Rattle.params.specs.declared.Params.{Params}
 use Rattle.params.proofs.Within as params
 use Rattle.position.specs.Position.{firstBlock, column, index, previousColumn, referenceLane, referenceColumn, reference, positionRows}
 use Rattle.position.proofs.Accepted.{position-accepted}
+use Rattle.position.proofs.Columns.{column-lt, previous-lt}
 use Rattle.position.proofs.Referring.{ref-lane, ref-column}
 use Rattle.argon2.specs.Filling.{currentIndex, previousIndex}
 use Rattle.argon2.specs.Inner.{Has, Lent, Segment, Fillable}
-use Rattle.argon2.proofs.Filling.{column-lt, previous-lt, has-at}
+use Rattle.argon2.proofs.Filling.{has-at}
 
 module _ {P : Params} {words : ℕ} (lent : Lent P words) where
   pub within : params.Within (P .lanes) (P .memory) (P .passes)
@@ -53,12 +54,12 @@ module _ {P : Params} {r sl l k words : ℕ} (f : Fillable P r sl l k words) whe
 
   pub current-room : Has words (currentIndex P sl l k)
   current-room =
-      room (f .of .lent) l (column (segment P) sl k) (f .of .lane) (column-lt (segment P) sl k (two (f .of .lent)) (f .of .slice) (f .inside))
+      room (f .of .lent) l (column (segment P) sl k) (f .of .lane) (column-lt (segment P) sl k (f .of .slice) (f .inside))
 
   pub previous-room : Has words (previousIndex P sl l k)
   previous-room =
       room (f .of .lent) l (previousColumn (segment P) sl k) (f .of .lane)
-      (previous-lt (segment P) sl k (two (f .of .lent)) (f .of .slice) (f .inside))
+      (previous-lt (segment P) sl k (f .of .slice) (f .inside))
 
   pub reference-room : (x : ℕ) → Has words (reference (P .lanes) (segment P) r sl l k x)
   reference-room x =

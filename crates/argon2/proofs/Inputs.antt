@@ -1,4 +1,4 @@
--- What accepted inputs are: parameters in a memory that has their blocks, and lengths whose counts 4 bytes hold. Assumes nothing.
+-- What accepted inputs are: parameters in a memory that has their blocks, and a tag of some bytes. Assumes nothing.
 use Prim.Native.Nat.{ℕ, _*_, _≤_}
 use mathlib.Core.Bool.{false}
 use mathlib.Core.List.{_++_}
@@ -13,8 +13,8 @@ use Rattle.params.specs.Limits.{rows, blocks, minTag, underMinTag}
 use Rattle.params.specs.declared.Configured.{Configured}
 use Rattle.params.specs.declared.Configured.the-variants.{Absent, Length}
 use Rattle.params.specs.declared.Params.{Params}
-use Rattle.argon2.specs.Inner.{Lent, Countable}
-use Rattle.argon2.specs.Rows.{maxLength, maxData, leastTag, outputRows, extraRows, inputRows, startRows, fillRows}
+use Rattle.argon2.specs.Inner.{Lent}
+use Rattle.checks.specs.Rows.{minSalt, plain, leastTag, outputRows, extraRows, inputRows, startRows, fillRows}
 
 -- a length that rows 8 and 11 accept is not 0
 some-bytes : (g : Configured) (n : ℕ) → underMinTag g ≡ false → ltb n (leastTag g) ≡ false → 1 ≤ n
@@ -26,53 +26,37 @@ tag-some P n a b =
     some-bytes (P .configured) n (passed (rows P) tt a .1 .1 .1 .1 .1 .1 .1 .0) (passed (outputRows (P .configured) n) tt b .0)
 
 module _ (P : Params) (password salt secret ad words : ℕ) where
-  lent : Passed (rows P) → Passed (inputRows P password salt words) → Lent P words
+  lent : Passed (rows P) → Passed (inputRows minSalt blockWords P password salt words) → Lent P words
   lent numbers inputs =
       record { accepted = accepted (rows P) numbers; enough = ltb-false words (blockWords * blocks P) (inputs .1 .1 .1 .0) }
 
-  countable : (n : ℕ) → n ≤ maxLength → Passed (extraRows secret ad) → Passed (inputRows P password salt words) → Countable n password salt secret ad
-  countable n fits extra inputs =
-      record {
-        of-tag = fits;
-        of-password = ltb-false maxLength password (inputs .0);
-        of-salt = ltb-false maxLength salt (inputs .1 .1 .0);
-        of-secret = ltb-false maxLength secret (extra .1 .0);
-        of-ad = omega (arith, ltb-false maxData ad (extra .0));
-      }
-
   -- start and the whole hash, for a tag of n bytes
-  module _ (n : ℕ) (h : first (startRows P n password salt secret ad words) ≡ 0) where
-    all : Passed (startRows P n password salt secret ad words)
-    all = passed (startRows P n password salt secret ad words) tt h
+  module _ (n : ℕ) (h : first (startRows plain blockWords P n password salt secret ad words) ≡ 0) where
+    all : Passed (startRows plain blockWords P n password salt secret ad words)
+    all = passed (startRows plain blockWords P n password salt secret ad words) tt h
 
-    after : Passed (extraRows secret ad ++ outputRows (P .configured) n ++ inputRows P password salt words)
-    after = passed-back (rows P) (extraRows secret ad ++ outputRows (P .configured) n ++ inputRows P password salt words) all
+    after : Passed (extraRows secret ad ++ outputRows (P .configured) n ++ inputRows minSalt blockWords P password salt words)
+    after = passed-back (rows P) (extraRows secret ad ++ outputRows (P .configured) n ++ inputRows minSalt blockWords P password salt words) all
 
     numbers : Passed (rows P)
-    numbers = passed-front (rows P) (extraRows secret ad ++ outputRows (P .configured) n ++ inputRows P password salt words) all
+    numbers = passed-front (rows P) (extraRows secret ad ++ outputRows (P .configured) n ++ inputRows minSalt blockWords P password salt words) all
 
-    inputs : Passed (inputRows P password salt words)
-    inputs = passed-back (extraRows secret ad ++ outputRows (P .configured) n) (inputRows P password salt words) after
+    inputs : Passed (inputRows minSalt blockWords P password salt words)
+    inputs = passed-back (extraRows secret ad ++ outputRows (P .configured) n) (inputRows minSalt blockWords P password salt words) after
 
     pub start-lent : Lent P words
     start-lent = lent numbers inputs
-
-    pub start-countable : n ≤ maxLength → Countable n password salt secret ad
-    start-countable fits = countable n fits (after .0, (after .1 .0, tt)) inputs
 
     pub start-some : 1 ≤ n
     start-some = some-bytes (P .configured) n (numbers .1 .1 .1 .1 .1 .1 .1 .0) (after .1 .1 .0)
 
   -- fill_memory
-  module _ (h : first (fillRows P password salt secret ad words) ≡ 0) where
-    fill-all : Passed (fillRows P password salt secret ad words)
-    fill-all = passed (fillRows P password salt secret ad words) tt h
+  module _ (h : first (fillRows plain blockWords P password salt secret ad words) ≡ 0) where
+    fill-all : Passed (fillRows plain blockWords P password salt secret ad words)
+    fill-all = passed (fillRows plain blockWords P password salt secret ad words) tt h
 
-    fill-after : Passed (extraRows secret ad ++ inputRows P password salt words)
-    fill-after = passed-back (rows P) (extraRows secret ad ++ inputRows P password salt words) fill-all
+    fill-after : Passed (extraRows secret ad ++ inputRows minSalt blockWords P password salt words)
+    fill-after = passed-back (rows P) (extraRows secret ad ++ inputRows minSalt blockWords P password salt words) fill-all
 
     pub fill-lent : Lent P words
-    fill-lent = lent (passed-front (rows P) (extraRows secret ad ++ inputRows P password salt words) fill-all) (fill-after .1 .1)
-
-    pub fill-countable : Countable 0 password salt secret ad
-    fill-countable = countable 0 (omega arith) (fill-after .0, (fill-after .1 .0, tt)) (fill-after .1 .1)
+    fill-lent = lent (passed-front (rows P) (extraRows secret ad ++ inputRows minSalt blockWords P password salt words) fill-all) (fill-after .1 .1)

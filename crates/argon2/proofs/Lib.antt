@@ -1,19 +1,12 @@
-pub mod Answered
 pub mod Commute
-pub mod Digests
 pub mod Filling
-pub mod HashInput
 pub mod Inner
 pub mod Inputs
-pub mod Jobs
-pub mod Laid
 pub mod LastBlocks
 pub mod Loop
 pub mod Memory
-pub mod MemoryCost
+mod Parts
 pub mod Settled
-pub mod Standing
 pub mod StartMemory
 pub mod StartWrites
 pub mod Stored
-pub mod Tests

@@ -5,13 +5,10 @@ use mathlib.Core.Path.{_≡_, sym, _∙_}
 use Rattle.answer.specs.declared.Answer.{Answer}
 use Rattle.answer.proofs.Number.{injective}
 use Rattle.params.specs.declared.Params.{Params}
-use Rattle.argon2.specs.Promises.{ZerosPromise, StartPromise, StepPromise, FinishPromise, HashPromise, FillMemoryPromise}
-use Rattle.argon2.specs.declared.job.Job.{Job}
-use Rattle.argon2.specs.declared.job.Started.{Started}
-use Rattle.argon2.specs.declared.job.Stepped.{Stepped}
-
-pub zeros-settled : {r r′ : Job} → ZerosPromise r → ZerosPromise r′ → r ≡ r′
-zeros-settled p p′ = p .result ∙ sym (p′ .result)
+use Rattle.argon2.specs.Promises.{StartPromise, StepPromise, FinishPromise, HashPromise, FillMemoryPromise}
+use Rattle.job.specs.declared.Job.{Job}
+use Rattle.argon2.specs.declared.Started.{Started}
+use Rattle.job.specs.declared.Stepped.{Stepped}
 
 pub start-settled : {P : Params} {tag : ℕ} {password salt secret ad w : List ℕ} {r r′ : Started} {v v′ : List ℕ}
     → StartPromise P tag password salt secret ad w r v → StartPromise P tag password salt secret ad w r′ v′ → (r ≡ r′) × (v ≡ v′)

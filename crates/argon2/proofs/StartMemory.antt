@@ -6,20 +6,21 @@ use Prim.Native.Nat.{ℕ, zero, suc, _+_, _*_, _/_, _≤_, _<_}
 use native.Mathlib.Nat.{eq-or-lt-of-le}
 use native.Mathlib.Omega.{arith}
 use lib.ListN.{length, getD}
-use Rattle.word.proofs.Table.{length-table}
+use Rattle.word.proofs.Bytes.{length-wordsOf}
 use Rattle.block.specs.Block.{blockWords}
 use Rattle.params.specs.Limits.{slices}
 use Rattle.position.specs.Position.{index}
 use Rattle.position.proofs.Referring.{same-lane, index-lt}
-use Rattle.argon2.specs.Initial.{blockOf, firstWords, startLane, startMemory}
+use Rattle.initial.specs.Initial.{firstWords}
+use Rattle.argon2.specs.Start.{startLane, startMemory}
 use Rattle.argon2.specs.Memory.{block, put}
 use Rattle.argon2.proofs.Commute.{loop-last-zero}
 use Rattle.argon2.proofs.Memory.{length-put, block-put-same, block-put-other, put-outside}
 
 -- a first block is whole
 pub first-length : (h : List ℕ) (l b : ℕ) → length (firstWords h l b) ≡ blockWords
-unfolding firstWords blockOf
-first-length h l b = length-table _ blockWords
+unfolding firstWords
+first-length h l b = length-wordsOf blockWords _
 
 -- lane after lane
 pub start-last : (h : List ℕ) (n s : ℕ) (w : List ℕ) → startMemory h (suc n) s w ≡ startLane h s n (startMemory h n s w)

@@ -16,8 +16,9 @@ use Rattle.params.specs.declared.Params.{Params}
 use Rattle.params.proofs.Within.{params-within, two}
 use Rattle.position.specs.Position.{index}
 use Rattle.argon2.specs.Calls.{started}
-use Rattle.argon2.specs.Initial.{initialHash, startMemory}
-use Rattle.argon2.specs.Rows.{extraRows, outputRows, inputRows}
+use Rattle.initial.specs.Initial.{initialHash}
+use Rattle.argon2.specs.Start.{startMemory}
+use Rattle.checks.specs.Rows.{minSalt, extraRows, outputRows, inputRows}
 use Rattle.argon2.proofs.StartMemory.{start-outside}
 
 -- parameters that pass rows 1 to 8, a tag length that they allow, and enough memory
@@ -35,7 +36,7 @@ module _ (P : Params) (tag : ℕ) (password salt secret ad w : List ℕ) where
   accepted-start e =
       let extra = extraRows (length secret) (length ad) in
       let output = outputRows (P .configured) tag in
-      let input = inputRows P (length password) (length salt) (length w) in
+      let input = inputRows minSalt blockWords P (length password) (length salt) (length w) in
       let all : Passed (rows P ++ extra ++ output ++ input) = passed (rows P ++ extra ++ output ++ input) tt e in
       let last : Passed input = passed-back (rows P ++ extra ++ output) input all in
       record {

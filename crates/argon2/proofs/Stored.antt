@@ -9,7 +9,7 @@ use lib.ListN.{length, getD}
 use Rattle.block.specs.Block.{blockWords, compress, xors}
 use Rattle.params.specs.Limits.{slices, segment, blocks}
 use Rattle.params.specs.declared.Params.{Params}
-use Rattle.position.specs.Address.{randomWord}
+use Rattle.address.specs.Address.{randomWord}
 use Rattle.position.specs.Position.{reference}
 use Rattle.argon2.specs.Filling.{currentIndex, previousIndex, wordFor, referenceIndex, newBlock, overwrites, storedBlock, fill}
 use Rattle.argon2.specs.Memory.{block}

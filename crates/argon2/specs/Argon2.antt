@@ -2,14 +2,15 @@
 use Prim.Native.Nat.{ℕ, zero, suc, _-_, _*_}
 use mathlib.Core.List.{List}
 use lib.ListN.{replicate}
-use Rattle.blake2b.specs.Blake2b.{bytes}
+use Rattle.word.specs.Word.{bytes}
 use Rattle.blake2b_long.specs.Long.{long}
 use Rattle.block.specs.Block.{blockWords, zeros, xors}
 use Rattle.params.specs.Limits.{slices, segment, blocks}
 use Rattle.params.specs.declared.Params.{Params}
 use Rattle.position.specs.Position.{index}
 use Rattle.argon2.specs.Filling.{fillAll}
-use Rattle.argon2.specs.Initial.{initialHash, startMemory}
+use Rattle.initial.specs.Initial.{initialHash}
+use Rattle.argon2.specs.Start.{startMemory}
 use Rattle.argon2.specs.Memory.{block}
 
 -- the XOR of the last blocks of the first n lanes

@@ -3,14 +3,16 @@ use Prim.Native.Nat.{ℕ}
 use mathlib.Core.List.{List, []}
 use lib.ListN.{length}
 use Rattle.answer.specs.Answers.{first, ifAccepted}
+use Rattle.block.specs.Block.{blockWords}
 use Rattle.params.specs.Limits.{segment}
 use Rattle.params.specs.declared.Params.{Params}
 use Rattle.argon2.specs.Argon2.{tagOf, filled}
 use Rattle.argon2.specs.Filling.{fill}
-use Rattle.argon2.specs.Initial.{initialHash, startMemory}
-use Rattle.argon2.specs.Jobs.{position, moved, settled, startJob, zeroJob, stepRows, finishRows}
-use Rattle.argon2.specs.Rows.{startRows, fillRows}
-use Rattle.argon2.specs.declared.job.Job.{Job}
+use Rattle.initial.specs.Initial.{initialHash}
+use Rattle.argon2.specs.Start.{startMemory}
+use Rattle.job.specs.Jobs.{position, moved, onward, startJob, zeroJob, stepRows, finishRows}
+use Rattle.checks.specs.Rows.{plain, startRows, fillRows}
+use Rattle.job.specs.declared.Job.{Job}
 
 -- an answer's number, the job handed back, and the memory after
 pub record Outcome : Type 0 where
@@ -21,7 +23,7 @@ pub record Outcome : Type 0 where
 -- start: blocks 0 and 1 of every lane, and the job before the first step; a refused start hands back a job of zeros
 unfoldable pub started : Params → ℕ → List ℕ → List ℕ → List ℕ → List ℕ → List ℕ → Outcome
 started P tag password salt secret ad w =
-    let n = first (startRows P tag (length password) (length salt) (length secret) (length ad) (length w)) in
+    let n = first (startRows plain blockWords P tag (length password) (length salt) (length secret) (length ad) (length w)) in
     record {
       answer = n;
       job = ifAccepted n (startJob P tag) zeroJob;
@@ -34,7 +36,7 @@ stepped j w l =
     let n = first (stepRows j (length w) l) in
     record {
       answer = n;
-      job = ifAccepted n (settled (moved j l)) j;
+      job = ifAccepted n (onward (moved j l)) j;
       memory = ifAccepted n (fill (j .params) (j .pass) (j .slice) l (position j l) w) w;
     }
 
@@ -57,7 +59,7 @@ finished j w out =
 -- the whole hash: as start, steps to completion and finish do
 unfoldable pub hashed : Params → List ℕ → List ℕ → List ℕ → List ℕ → List ℕ → List ℕ → Result
 hashed P password salt secret ad w out =
-    let n = first (startRows P (length out) (length password) (length salt) (length secret) (length ad) (length w)) in
+    let n = first (startRows plain blockWords P (length out) (length password) (length salt) (length secret) (length ad) (length w)) in
     let end = filled P (length out) password salt secret ad w in
     record {
       answer = n;
@@ -68,5 +70,5 @@ hashed P password salt secret ad w out =
 -- fill_memory: the memory that this filling gives when the initial hash is taken with tag length 0
 unfoldable pub memoryFilled : Params → List ℕ → List ℕ → List ℕ → List ℕ → List ℕ → Result
 memoryFilled P password salt secret ad w =
-    let n = first (fillRows P (length password) (length salt) (length secret) (length ad) (length w)) in
+    let n = first (fillRows plain blockWords P (length password) (length salt) (length secret) (length ad) (length w)) in
     record { answer = n; memory = ifAccepted n (filled P 0 password salt secret ad w) w; output = [] }

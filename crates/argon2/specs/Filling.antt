@@ -8,7 +8,7 @@ use lib.ListN.{getD}
 use Rattle.block.specs.Block.{compress, xors}
 use Rattle.params.specs.Limits.{slices, segment, v10}
 use Rattle.params.specs.declared.Params.{Params}
-use Rattle.position.specs.Address.{randomWord}
+use Rattle.address.specs.Address.{randomWord}
 use Rattle.position.specs.Position.{firstBlock, column, index, previousColumn, reference}
 use Rattle.argon2.specs.Loop.{loop}
 use Rattle.argon2.specs.Memory.{block, put}
@@ -36,9 +36,11 @@ newBlock P r sl l k w = compress (block (previousIndex P sl l k) w) (block (refe
 abbrev pub overwrites : Params → ℕ → Bool
 overwrites P r = eqb r 0 || eqb (P .version) v10
 
+abbrev pub stored : Params → ℕ → List ℕ → List ℕ → List ℕ
+stored P r old new = cond (overwrites P r) new (xors old new)
+
 unfoldable pub storedBlock : Params → ℕ → ℕ → ℕ → ℕ → List ℕ → List ℕ
-storedBlock P r sl l k w =
-    cond (overwrites P r) (newBlock P r sl l k w) (xors (block (currentIndex P sl l k) w) (newBlock P r sl l k w))
+storedBlock P r sl l k w = stored P r (block (currentIndex P sl l k) w) (newBlock P r sl l k w)
 
 -- the memory once that block is filled
 unfoldable pub fill : Params → ℕ → ℕ → ℕ → ℕ → List ℕ → List ℕ

@@ -1,17 +1,11 @@
--- What the crate's own functions require and leave: parameters that are accepted, in a memory of so many words, there a block that a step
--- fills, and the memory with a block stored; and inputs that can be counted.
+-- What the crate's own functions require: parameters that are accepted, in a memory of so many words, and there a block that a step fills.
 use Prim.Native.Nat.{ℕ, _+_, _*_, _≤_, _<_}
-use mathlib.Core.Bool.{cond}
-use mathlib.Core.List.{List}
 use mathlib.Core.Path.{_≡_}
 use Rattle.answer.specs.Answers.{first}
-use Rattle.block.specs.Block.{blockWords, xors}
+use Rattle.block.specs.Block.{blockWords}
 use Rattle.params.specs.Limits.{rows, slices, segment, blocks}
 use Rattle.params.specs.declared.Params.{Params}
 use Rattle.position.specs.Position.{firstBlock}
-use Rattle.argon2.specs.Filling.{overwrites}
-use Rattle.argon2.specs.Memory.{block, put}
-use Rattle.argon2.specs.Rows.{maxLength}
 
 -- "Domain and sizes": a memory of so many words has block b
 abbrev pub Has : ℕ → ℕ → Type 0
@@ -21,14 +15,6 @@ Has words b = blockWords * b + blockWords ≤ words
 pub record Lent (P : Params) (words : ℕ) : Type 0 where
   pub accepted : first (rows P) ≡ 0
   pub enough : blockWords * blocks P ≤ words
-
--- "Domain and sizes": a tag of n bytes, and inputs of so many, whose counts 4 bytes hold
-pub record Countable (n password salt secret ad : ℕ) : Type 0 where
-  pub of-tag : n ≤ maxLength
-  pub of-password : password ≤ maxLength
-  pub of-salt : salt ≤ maxLength
-  pub of-secret : secret ≤ maxLength
-  pub of-ad : ad ≤ maxLength
 
 -- "The job": pass, slice and lane are those of a segment
 pub record Segment (P : Params) (r sl l words : ℕ) : Type 0 where
@@ -42,7 +28,3 @@ pub record Fillable (P : Params) (r sl l k words : ℕ) : Type 0 where
   pub of : Segment P r sl l words
   pub from : firstBlock r sl ≤ k
   pub inside : k < segment P
-
--- "Store": the memory once the words new are stored at block b
-abbrev pub stored : Params → ℕ → ℕ → List ℕ → List ℕ → List ℕ
-stored P r b new w = put b (cond (overwrites P r) new (xors (block b w) new)) w

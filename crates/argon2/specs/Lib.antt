@@ -1,10 +1,8 @@
 pub mod Argon2
 pub mod Calls
 pub mod Filling
-pub mod Initial
 pub mod Inner
-pub mod Jobs
 pub mod Loop
 pub mod Memory
 pub mod Promises
-pub mod Rows
+pub mod Start

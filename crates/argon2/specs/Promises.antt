@@ -6,13 +6,9 @@ use Rattle.answer.specs.Answers.{number}
 use Rattle.answer.specs.declared.Answer.{Answer}
 use Rattle.params.specs.declared.Params.{Params}
 use Rattle.argon2.specs.Calls.{started, stepped, finished, hashed, memoryFilled}
-use Rattle.argon2.specs.Jobs.{zeroJob}
-use Rattle.argon2.specs.declared.job.Job.{Job}
-use Rattle.argon2.specs.declared.job.Started.{Started}
-use Rattle.argon2.specs.declared.job.Stepped.{Stepped}
-
-pub record ZerosPromise (r : Job) : Type 0 where
-  pub result : r ≡ zeroJob
+use Rattle.job.specs.declared.Job.{Job}
+use Rattle.argon2.specs.declared.Started.{Started}
+use Rattle.job.specs.declared.Stepped.{Stepped}
 
 pub record StartPromise (P : Params) (tag : ℕ) (password salt secret ad w : List ℕ) (r : Started) (w′ : List ℕ) : Type 0 where
   pub answer : number (r .answer) ≡ started P tag password salt secret ad w .answer

@@ -4,139 +4,33 @@ ghost use mathlib.Core.Path.{_≡_};
 ghost use Prim.Native.Nat.{_<_};
 ghost use denote.Ref.{now};
 ghost use lib.ListN.{getD, length};
-ghost use Rattle.answer.specs.Answers.{first};
 ghost use Rattle.params.specs.Limits.{slices, segment};
-ghost use Rattle.position.specs.Address.{addressed, addressBlock, addressCounter, addressPlace};
-ghost use Rattle.position.specs.Position as position;
+ghost use Rattle.address.specs.Address.{addressed};
 ghost use Rattle.argon2.specs.Filling as spec;
-ghost use Rattle.argon2.specs.Inner.{Has, Lent, Segment, Fillable, stored};
+ghost use Rattle.argon2.specs.Inner.{Has, Lent, Segment, Fillable};
 ghost use Rattle.argon2.specs.Memory as memory;
 use crate::blocks::read_block;
 use crate::blocks::write_block;
+use address::address_block;
+use address::address_counter;
+use address::address_word;
+use address::is_addressed;
 use block::Block;
 use params::Params;
-use position::BlockNumber;
 use position::LaneNumber;
+use position::column;
 use position::first_block;
+use position::index;
+use position::previous_column;
 use position::reference_position;
-
-// Argon2id takes its random words from address blocks in so many slices, of pass 0.
-const ADDRESSED_SLICES: u32 = 2;
-
-// Whether a segment's random words come from address blocks: Argon2i always, Argon2id in pass 0, slices 0 and 1.
-fn is_addressed(params: Params, pass: u32, slice: u32) -> bool
-    ensures { λ r. ⌜ r ≡ addressed params pass slice ⌝ }
-{
-    (params.algorithm == Params::I)
-        | ((params.algorithm == Params::ID) & (pass == 0) & (slice < ADDRESSED_SLICES))
-}
-
-// The address block with this counter: the compression, twice with a zero block, of the segment's numbers.
-fn address_block(params: Params, pass: u32, slice: u32, lane: LaneNumber, counter: u32) -> Block
-    ensures { λ r. ⌜ r .words ≡ addressBlock params pass slice (lane .0) counter ⌝ }
-{
-    let mut input = [0; Block::WORDS];
-    input[0] = pass as u64;
-    input[1] = lane.0 as u64;
-    input[2] = slice as u64;
-    input[3] = params.block_count() as u64;
-    input[4] = params.passes as u64;
-    input[5] = params.algorithm as u64;
-    input[6] = counter as u64;
-    let once = Block::compress(Block::new(), Block { words: input });
-    Block::compress(Block::new(), once)
-}
-
-// The counter of the address block that a block takes its word from: one address block is for as many blocks as it has words.
-fn address_counter(block: u32) -> u32
-    ensures { λ r. ⌜ r ≡ addressCounter block ⌝ }
-{
-    block / Block::WORDS as u32 + 1
-}
-
-// The word of its address block that a block takes.
-fn address_word(addresses: &[u64; Block::WORDS], block: u32) -> u64
-    ensures { λ r. ⌜ r ≡ getD (now (addresses .entry)) (addressPlace block) 0 ⌝ }
-{
-    let at = block as usize % Block::WORDS;
-    addresses[at]
-}
-
-// The number in memory of a lane's block at a column.
-fn index(params: Params, lane: LaneNumber, column: BlockNumber) -> usize
-    ensures { λ r. ⌜ r ≡ position.index (segment params) (lane .0) (column .0) ⌝ }
-{
-    column.in_memory(lane, params.lane_length())
-}
-
-// The column of a block of a slice.
-fn column(params: Params, slice: u32, block: u32) -> BlockNumber
-    requires { ⌜ (slice < slices) × (block < segment params) ⌝ }
-    ensures { λ r. ⌜ r .0 ≡ position.column (segment params) slice block ⌝ }
-{
-    BlockNumber(slice * params.segment_length() + block)
-}
-
-// The column of the block before; before a lane's first block, in a later pass, stands its last.
-fn previous_column(params: Params, slice: u32, block: u32) -> BlockNumber
-    requires { ⌜ (slice < slices) × (block < segment params) ⌝ }
-    ensures { λ r. ⌜ r .0 ≡ position.previousColumn (segment params) slice block ⌝ }
-{
-    let at = column(params, slice, block).0;
-    if at == 0 {
-        return BlockNumber(params.lane_length() - 1);
-    }
-    BlockNumber(at - 1)
-}
-
-// The number in memory of the block itself.
-fn current_index(params: Params, slice: u32, lane: LaneNumber, block: u32) -> usize
-    requires { ⌜ (slice < slices) × (block < segment params) ⌝ }
-    ensures { λ r. ⌜ r ≡ spec.currentIndex params slice (lane .0) block ⌝ }
-{
-    index(params, lane, column(params, slice, block))
-}
-
-// The number in memory of the previous block.
-fn previous_index(params: Params, slice: u32, lane: LaneNumber, block: u32) -> usize
-    requires { ⌜ (slice < slices) × (block < segment params) ⌝ }
-    ensures { λ r. ⌜ r ≡ spec.previousIndex params slice (lane .0) block ⌝ }
-{
-    index(params, lane, previous_column(params, slice, block))
-}
-
-// The number in memory of the reference block that the random word gives.
-fn reference_index(
-    params: Params,
-    pass: u32,
-    slice: u32,
-    lane: LaneNumber,
-    block: u32,
-    word: u64,
-) -> usize
-    requires { ⌜ first (position.positionRows (params .lanes) (params .memory) (params .passes) pass slice (lane .0) block) ≡ 0 ⌝ }
-    ensures { λ r. ⌜ r ≡ position.reference (params .lanes) (segment params) pass slice (lane .0) block word ⌝ }
-{
-    let to = reference_position(
-        params.lanes,
-        params.memory,
-        params.passes,
-        pass,
-        slice,
-        lane,
-        block,
-        word,
-    );
-    let column = to.block;
-    index(params, to.lane, column)
-}
 
 // Word 0 of the previous block.
 fn previous_word(words: &[u64], params: Params, slice: u32, lane: LaneNumber, block: u32) -> u64
     requires { ⌜ (slice < slices) × (block < segment params) × Has (length (now words)) (spec.previousIndex params slice (lane .0) block) ⌝ }
     ensures { λ r. ⌜ r ≡ getD (memory.block (spec.previousIndex params slice (lane .0) block) (now (words .entry))) 0 0 ⌝ }
 {
-    let first = Block::WORDS * previous_index(params, slice, lane, block);
+    let previous = index(params, lane, previous_column(params, slice, block));
+    let first = Block::WORDS * previous;
     words[first]
 }
 
@@ -162,7 +56,8 @@ fn random_word(
 // Stores a new block: pass 0 or version 16 overwrites; otherwise XOR with what stood there.
 fn store(words: &mut [u64], params: Params, pass: u32, at: usize, new: Block)
     requires { ⌜ Has (length (now words)) at ⌝ }
-    ensures { λ _. ⌜ now (words .exit) ≡ stored params pass at (new .words) (now (words .entry)) ⌝ }
+    ensures { λ _. ⌜ now (words .exit)
+        ≡ memory.put at (spec.stored params pass (memory.block at (now (words .entry))) (new .words)) (now (words .entry)) ⌝ }
 {
     if (pass == 0) | (params.version == Params::V0X10) {
         write_block(words, at, new);
@@ -185,19 +80,23 @@ fn fill_with(
     requires { ⌜ Fillable params pass slice (lane .0) block (length (now words)) × (word ≡ spec.wordFor params pass slice (lane .0) block (now words)) ⌝ }
     ensures { λ _. ⌜ now (words .exit) ≡ spec.fill params pass slice (lane .0) block (now (words .entry)) ⌝ }
 {
-    let previous = read_block(&*words, previous_index(params, slice, lane, block));
-    let reference = read_block(
-        &*words,
-        reference_index(params, pass, slice, lane, block, word),
-    );
-    let new = Block::compress(previous, reference);
-    store(
-        words,
-        params,
+    let before = index(params, lane, previous_column(params, slice, block));
+    let previous = read_block(&*words, before);
+    let to = reference_position(
+        params.lanes,
+        params.memory,
+        params.passes,
         pass,
-        current_index(params, slice, lane, block),
-        new,
+        slice,
+        lane,
+        block,
+        word,
     );
+    let referred = to.block;
+    let reference = read_block(&*words, index(params, to.lane, referred));
+    let new = Block::compress(previous, reference);
+    let at = index(params, lane, column(params, slice, block));
+    store(words, params, pass, at, new);
 }
 
 // Fills a block: finds its random word, and fills with that.

@@ -1,72 +1,30 @@
 // Argon2 (RFC 9106), one block a call, in memory that the caller lends.
-ghost use mathlib.Core.Path.{_≡_};
 ghost use denote.Ref.{now};
-ghost use lib.ListN.{length};
-ghost use Rattle.params.specs.Limits.{segment};
-ghost use Rattle.argon2.specs.Argon2.{filled};
-ghost use Rattle.argon2.specs.Initial.{initialHash, startMemory};
-ghost use Rattle.argon2.specs.Inner.{Lent, Countable};
 ghost use Rattle.argon2.specs.Promises.{StartPromise, StepPromise, FinishPromise, HashPromise, FillMemoryPromise};
 
 mod blocks;
-mod bytes;
-mod checks;
 mod fill;
-mod initial;
-mod job;
+mod first;
 mod tag;
 
 use answer::Answer;
+use checks::Rule;
+use checks::WORDS;
 use checks::check_fill;
 use checks::check_start;
 use fill::fill_all;
 use fill::fill_block;
-use initial::first_blocks;
+use first::first_blocks;
 use initial::initial_hash;
 pub use job::Job;
-pub use job::Started;
 pub use job::Stepped;
 use params::Params;
 use position::LaneNumber;
-use tag::tag;
+use tag::write_tag;
 
-// The blocks that every lane begins with: those of the initial hash.
-fn begin(
-    params: Params,
-    tag: usize,
-    password: &[u8],
-    salt: &[u8],
-    secret: &[u8],
-    ad: &[u8],
-    words: &mut [u64],
-)
-    requires { ⌜ Lent params (length (now words))
-        × Countable tag (length (now password)) (length (now salt)) (length (now secret)) (length (now ad)) ⌝ }
-    ensures { λ _. ⌜ now (words .exit)
-        ≡ startMemory (initialHash params tag (now (password .entry)) (now (salt .entry)) (now (secret .entry)) (now (ad .entry)))
-        (params .lanes) (segment params) (now (words .entry)) ⌝ }
-{
-    let h = initial_hash(params, tag, password, salt, secret, ad);
-    first_blocks(words, params, h);
-}
-
-// The blocks that every lane begins with, and then all the others, pass after pass.
-fn complete(
-    params: Params,
-    tag: usize,
-    password: &[u8],
-    salt: &[u8],
-    secret: &[u8],
-    ad: &[u8],
-    words: &mut [u64],
-)
-    requires { ⌜ Lent params (length (now words))
-        × Countable tag (length (now password)) (length (now salt)) (length (now secret)) (length (now ad)) ⌝ }
-    ensures { λ _. ⌜ now (words .exit)
-        ≡ filled params tag (now (password .entry)) (now (salt .entry)) (now (secret .entry)) (now (ad .entry)) (now (words .entry)) ⌝ }
-{
-    begin(params, tag, password, salt, secret, ad, &mut *words);
-    fill_all(words, params);
+pub struct Started {
+    pub answer: Answer,
+    pub job: Job,
 }
 
 // Argon2 as a whole: the tag fills out, and the words are left as the filling leaves them. Refused, words and out stay.
@@ -83,7 +41,10 @@ pub fn hash_password_into_with_memory(
         (now (out .entry)) r (now (words .exit)) (now (out .exit)) ⌝ }
 {
     let n = out.len();
+    let rule = Rule::plain();
     let answer = check_start(
+        rule,
+        WORDS,
         params,
         n,
         password.len(),
@@ -95,8 +56,10 @@ pub fn hash_password_into_with_memory(
     if answer.number() != 0 {
         return answer;
     }
-    complete(params, n, password, salt, secret, ad, &mut *words);
-    tag(&*words, params, out);
+    let h = initial_hash(params, n, password, salt, secret, ad);
+    first_blocks(&mut *words, params, h);
+    fill_all(&mut *words, params);
+    write_tag(&*words, params, out);
     answer
 }
 
@@ -112,7 +75,10 @@ pub fn fill_memory(
     ensures { λ r. ⌜ FillMemoryPromise params (now (password .entry)) (now (salt .entry)) (now (secret .entry)) (now (ad .entry)) (now (words .entry))
         r (now (words .exit)) ⌝ }
 {
+    let rule = Rule::plain();
     let answer = check_fill(
+        rule,
+        WORDS,
         params,
         password.len(),
         salt.len(),
@@ -123,7 +89,9 @@ pub fn fill_memory(
     if answer.number() != 0 {
         return answer;
     }
-    complete(params, 0, password, salt, secret, ad, words);
+    let h = initial_hash(params, 0, password, salt, secret, ad);
+    first_blocks(&mut *words, params, h);
+    fill_all(words, params);
     answer
 }
 
@@ -140,7 +108,10 @@ pub fn start(
     ensures { λ r. ⌜ StartPromise params tag (now (password .entry)) (now (salt .entry)) (now (secret .entry)) (now (ad .entry)) (now (words .entry))
         r (now (words .exit)) ⌝ }
 {
+    let rule = Rule::plain();
     let answer = check_start(
+        rule,
+        WORDS,
         params,
         tag,
         password.len(),
@@ -153,7 +124,8 @@ pub fn start(
         let job = Job::zeros();
         return Started { answer, job };
     }
-    begin(params, tag, password, salt, secret, ad, words);
+    let h = initial_hash(params, tag, password, salt, secret, ad);
+    first_blocks(words, params, h);
     let job = Job::start(params, tag);
     Started { answer, job }
 }
@@ -162,15 +134,15 @@ pub fn start(
 pub fn step(job: Job, words: &mut [u64], lane: LaneNumber) -> Stepped
     ensures { λ r. ⌜ StepPromise job (now (words .entry)) (lane .0) r (now (words .exit)) ⌝ }
 {
-    let answer = job.check_step(words.len(), lane);
+    let next = job.after(words.len(), lane);
+    let answer = next.answer;
     if answer.number() != 0 {
-        return Stepped { answer, job };
+        return next;
     }
     let params = job.params;
     let block = job.position(lane);
     fill_block(words, params, job.pass, job.slice, lane, block);
-    let next = job.moved(lane).settled();
-    Stepped { answer, job: next }
+    next
 }
 
 // Finish: the tag of a job that is complete fills out. Refused, out stays.
@@ -182,6 +154,6 @@ pub fn finish(job: Job, words: &[u64], out: &mut [u8]) -> Answer
         return checked;
     }
     let params = job.params;
-    tag(words, params, out);
+    write_tag(words, params, out);
     checked
 }

@@ -1,6 +1,5 @@
 // The tag (document 01, "Tag").
 use crate::blocks::read_block;
-use crate::bytes::bytes_of;
 use blake2b_long::blake2b_long;
 use block::Block;
 use params::Params;
@@ -12,7 +11,7 @@ ghost use lib.ListN.{length};
 ghost use Rattle.params.specs.Limits.{segment};
 ghost use Rattle.argon2.specs.Argon2.{lastBlocks, tagOf};
 ghost use Rattle.argon2.specs.Inner.{Lent};
-ghost use Rattle.argon2.specs.Rows.{maxLength};
+ghost use Rattle.word.specs.Word.{maxLength};
 
 // The XOR of every lane's last block.
 fn last_blocks(words: &[u64], params: Params) -> Block
@@ -33,12 +32,12 @@ fn last_blocks(words: &[u64], params: Params) -> Block
 }
 
 // The tag of a filled memory: the variable-length hash of that XOR, as many bytes as out has.
-pub(crate) fn tag(words: &[u64], params: Params, out: &mut [u8])
+pub(crate) fn write_tag(words: &[u64], params: Params, out: &mut [u8])
     requires { ⌜ Lent params (length (now words))
         × (1 ≤ length (now out))
         × (length (now out) ≤ maxLength) ⌝ }
     ensures { λ _. ⌜ now (out .exit) ≡ tagOf params (length (now (out .entry))) (now (words .entry)) ⌝ }
 {
-    let bytes = bytes_of(last_blocks(words, params));
+    let bytes = last_blocks(words, params).to_bytes();
     blake2b_long(&bytes, out);
 }

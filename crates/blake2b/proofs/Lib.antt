@@ -1,8 +1,5 @@
-pub mod Bytes
-pub mod Counting
 pub mod Feeding
-pub mod Outputs
-pub mod Rounds
+pub mod Hashing
 pub mod Settled
 pub mod Streaming
 pub mod Vectors

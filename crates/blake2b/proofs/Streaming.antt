@@ -1,5 +1,5 @@
 -- The state after a message's bytes is the RFC's: `streamed`. However the message is cut, the state is the same: `cut`.
--- `stateOf` says what the state holds after any message, for any h₀, and a byte more is shown to keep it so. Assumes nothing.
+-- `stateOf` says what the engine holds after any message, for any h₀, and a byte more is shown to keep it so. Assumes nothing.
 use Prim.Native.Nat.{ℕ, zero, suc, _+_, _-_, _*_, _/_, _%_, _^_, _<_, _≤_}
 use mathlib.Core.Bool.{true, false}
 use mathlib.Core.List.{List, [], _∷_, _++_, append-assoc, append-nil}
@@ -9,10 +9,12 @@ use native.Mathlib.Omega.{arith}
 use borrow.Author.Tests.{lt-ltb, le-ltb}
 use lib.ListN.{set, take, drop, length, replicate, length-append, length-drop}
 use lib.Seq.{take-all, take-append-le, drop-append-le, drop-at, set-append-seam}
-use Rattle.blake2b.specs.declared.State.{State}
-use Rattle.blake2b.specs.Blake2b.{blockBytes, maxOutput, F, words, pad, block, initial, chain, before, final, bytes, blake2b}
-use Rattle.blake2b.specs.Stream.{count, fresh, flushed, put, feedByte, feedAll, sealed, ended}
-use Rattle.blake2b.proofs.Counting.{seen-low, seen-high, F-seen}
+use Rattle.word.specs.Word.{bytes}
+use Rattle.blake2b_compression.specs.Compression.{blockBytes, F, words}
+use Rattle.blake2b_compression.proofs.Counting.{seen-low, seen-high, F-seen}
+use Rattle.blake2b.specs.declared.Engine.{Engine}
+use Rattle.blake2b.specs.Blake2b.{pad, block, chain, before, final}
+use Rattle.blake2b.specs.Stream.{count, fresh, flushed, put, feedByte, feedAll, sealed}
 use Rattle.blake2b.proofs.Feeding.{same-state}
 
 -- ---- blocks: a longer message has the same ones, as far as the shorter is full
@@ -48,25 +50,24 @@ block-next : (i : ℕ) (msg : List ℕ) (b : ℕ) → length msg ≡ blockBytes 
 unfolding block pad
 block-next i msg b h = rw (drop-at msg (b ∷ []) (blockBytes * i) h)
 
--- ---- the state after a message that begins at h₀, for an output of n bytes
-unfoldable pub stateOf : List ℕ → ℕ → List ℕ → State
-stateOf h₀ n msg =
+-- ---- the state after a message that begins at h₀
+unfoldable pub stateOf : List ℕ → List ℕ → Engine
+stateOf h₀ msg =
     record {
       h = chain h₀ (before msg) msg;
       buffer = block (before msg) msg;
       filled = length msg - blockBytes * before msg;
       low = (blockBytes * before msg) % 2 ^ 64;
       high = (blockBytes * before msg) / 2 ^ 64 % 2 ^ 64;
-      output = n;
     }
 
-nothing : (n : ℕ) → fresh n ≡ stateOf (initial n) n []
+nothing : (h₀ : List ℕ) → fresh h₀ ≡ stateOf h₀ []
 unfolding fresh stateOf chain before block pad
-nothing n = refl
+nothing h₀ = refl
 
 -- a byte more: there is room, or the block was full
-module _ (h₀ : List ℕ) (n : ℕ) (msg : List ℕ) (b : ℕ) where
-  room : length msg - blockBytes * before msg < blockBytes → put (stateOf h₀ n msg) b ≡ stateOf h₀ n (msg ++ b ∷ [])
+module _ (h₀ msg : List ℕ) (b : ℕ) where
+  room : length msg - blockBytes * before msg < blockBytes → put (stateOf h₀ msg) b ≡ stateOf h₀ (msg ++ b ∷ [])
   unfolding put stateOf before
   room h =
       let l = length-append msg (b ∷ []) in
@@ -74,7 +75,7 @@ module _ (h₀ : List ℕ) (n : ℕ) (msg : List ℕ) (b : ℕ) where
       let f : blockBytes * ((length msg - 1) / blockBytes) ≤ length msg = omega arith in
       rw k (same-state (sym (chain-append h₀ _ msg (b ∷ []) f)) (block-more _ msg b f h) (omega arith) refl refl)
 
-  full : blockBytes ≤ length msg - blockBytes * before msg → put (flushed (stateOf h₀ n msg)) b ≡ stateOf h₀ n (msg ++ b ∷ [])
+  full : blockBytes ≤ length msg - blockBytes * before msg → put (flushed (stateOf h₀ msg)) b ≡ stateOf h₀ (msg ++ b ∷ [])
   unfolding put flushed stateOf before count chain
   full h =
       let i = (length msg - 1) / blockBytes in
@@ -92,47 +93,43 @@ module _ (h₀ : List ℕ) (n : ℕ) (msg : List ℕ) (b : ℕ) where
       (seen-low (blockBytes * i) blockBytes ∙ rw d)
       (seen-high (blockBytes * i) blockBytes ∙ rw d))
 
-  byte-more : feedByte (stateOf h₀ n msg) b ≡ stateOf h₀ n (msg ++ b ∷ [])
+  byte-more : feedByte (stateOf h₀ msg) b ≡ stateOf h₀ (msg ++ b ∷ [])
   unfolding feedByte
   byte-more =
-      elim (decLt (stateOf h₀ n msg .filled) blockBytes) [
-        | yes h ↦ rw (lt-ltb (stateOf h₀ n msg .filled) blockBytes h) (room (unfold stateOf in h))
-        | no h ↦ rw (le-ltb (stateOf h₀ n msg .filled) blockBytes (omega arith)) (full (unfold stateOf in omega arith))
+      elim (decLt (stateOf h₀ msg .filled) blockBytes) [
+        | yes h ↦ rw (lt-ltb (stateOf h₀ msg .filled) blockBytes h) (room (unfold stateOf in h))
+        | no h ↦ rw (le-ltb (stateOf h₀ msg .filled) blockBytes (omega arith)) (full (unfold stateOf in omega arith))
       ]
 
-bytes-more : (h₀ : List ℕ) (n : ℕ) (msg more : List ℕ) → feedAll (stateOf h₀ n msg) more ≡ stateOf h₀ n (msg ++ more)
+bytes-more : (h₀ msg more : List ℕ) → feedAll (stateOf h₀ msg) more ≡ stateOf h₀ (msg ++ more)
 unfolding feedAll
-bytes-more h₀ n msg [] = rw (append-nil msg)
-bytes-more h₀ n msg (b ∷ bs) =
-    ap (λ (s : State). feedAll s bs) (byte-more h₀ n msg b) ∙ bytes-more h₀ n (msg ++ b ∷ []) bs ∙ ap (stateOf h₀ n) (append-assoc msg (b ∷ []) bs)
+bytes-more h₀ msg [] = rw (append-nil msg)
+bytes-more h₀ msg (b ∷ bs) =
+    ap (λ (s : Engine). feedAll s bs) (byte-more h₀ msg b) ∙ bytes-more h₀ (msg ++ b ∷ []) bs ∙ ap (stateOf h₀) (append-assoc msg (b ∷ []) bs)
 
 -- the state after a message is the one that the definition has
-pub fed-is : (n : ℕ) (msg : List ℕ) → feedAll (fresh n) msg ≡ stateOf (initial n) n msg
-fed-is n msg = ap (λ (s : State). feedAll s msg) (nothing n) ∙ bytes-more (initial n) n [] msg
+pub fed-is : (h₀ msg : List ℕ) → feedAll (fresh h₀) msg ≡ stateOf h₀ msg
+fed-is h₀ msg = ap (λ (s : Engine). feedAll s msg) (nothing h₀) ∙ bytes-more h₀ [] msg
 
 -- .. and its last compression is the definition's
-last-is : (h₀ : List ℕ) (n : ℕ) (msg : List ℕ)
-    → F (stateOf h₀ n msg .h) (words (stateOf h₀ n msg .buffer)) (count (stateOf h₀ n msg) + stateOf h₀ n msg .filled) true ≡ final h₀ msg
+last-is : (h₀ msg : List ℕ)
+    → F (stateOf h₀ msg .h) (words (stateOf h₀ msg .buffer)) (count (stateOf h₀ msg) + stateOf h₀ msg .filled) true ≡ final h₀ msg
 unfolding stateOf count final before
-last-is h₀ n msg =
+last-is h₀ msg =
     let i = (length msg - 1) / blockBytes in
     let e : blockBytes * i + (length msg - blockBytes * i) ≡ length msg = omega arith in
     F-seen (chain h₀ i msg) (words (block i msg)) (blockBytes * i) (length msg - blockBytes * i) true ∙ rw e
 
-pub sealed-is : (h₀ : List ℕ) (n : ℕ) (msg : List ℕ) → sealed (stateOf h₀ n msg) ≡ bytes (final h₀ msg)
+pub sealed-is : (h₀ msg : List ℕ) → sealed (stateOf h₀ msg) ≡ bytes (final h₀ msg)
 unfolding sealed
-sealed-is h₀ n msg = ap bytes (last-is h₀ n msg)
+sealed-is h₀ msg = ap bytes (last-is h₀ msg)
 
-ended-is : (n : ℕ) (msg : List ℕ) → ended (stateOf (initial n) n msg) ≡ blake2b n msg ++ replicate (maxOutput - n) 0
-unfolding ended blake2b stateOf
-ended-is n msg = ap (λ (b : List ℕ). take n b ++ replicate (maxOutput - n) 0) (sealed-is (initial n) n msg)
-
--- the stream's digest is the RFC's hash by blocks, and zeros
-pub streamed : (n : ℕ) (msg : List ℕ) → ended (feedAll (fresh n) msg) ≡ blake2b n msg ++ replicate (maxOutput - n) 0
-streamed n msg = ap ended (fed-is n msg) ∙ ended-is n msg
+-- the stream's bytes are the RFC's, by blocks
+pub streamed : (h₀ msg : List ℕ) → sealed (feedAll (fresh h₀) msg) ≡ bytes (final h₀ msg)
+streamed h₀ msg = ap sealed (fed-is h₀ msg) ∙ sealed-is h₀ msg
 
 -- the cut does not matter
-pub cut : (s : State) (a b : List ℕ) → feedAll s (a ++ b) ≡ feedAll (feedAll s a) b
+pub cut : (s : Engine) (a b : List ℕ) → feedAll s (a ++ b) ≡ feedAll (feedAll s a) b
 unfolding feedAll
 cut s [] b = refl
 cut s (x ∷ a) b = cut (feedByte s x) a b

@@ -1,23 +1,23 @@
--- The state that takes a message byte by byte, and the checks of an output's length.
-use Prim.Native.Nat.{ℕ, _+_, _-_, _*_, _/_, _%_, _^_}
+-- The engine that takes a message byte by byte.
+use Prim.Native.Nat.{ℕ, _+_, _*_, _/_, _%_, _^_}
 use mathlib.Core.Bool.{true, false, cond}
-use mathlib.Core.List.{List, [], _∷_, _++_}
-use lib.Dec.{eqb, ltb}
-use lib.ListN.{set, take, replicate}
-use Rattle.answer.specs.Answers.{Row, _when_}
-use Rattle.blake2b.specs.declared.State.{State}
-use Rattle.blake2b.specs.Blake2b.{blockBytes, maxOutput, F, words, bytes, initial}
+use mathlib.Core.List.{List, [], _∷_}
+use lib.Dec.{ltb}
+use lib.ListN.{set, replicate}
+use Rattle.word.specs.Word.{bytes}
+use Rattle.blake2b_compression.specs.Compression.{blockBytes, F, words}
+use Rattle.blake2b.specs.declared.Engine.{Engine}
 
--- the bytes of the blocks that are done, of which the state keeps 128 bits
-unfoldable pub count : State → ℕ
+-- the bytes of the blocks that are done, of which the engine keeps 128 bits
+unfoldable pub count : Engine → ℕ
 count s = s .low + s .high * 2 ^ 64
 
--- nothing taken yet, for an output of n bytes
-unfoldable pub fresh : ℕ → State
-fresh n = record { h = initial n; buffer = replicate blockBytes 0; filled = 0; low = 0; high = 0; output = n }
+-- nothing taken yet, from h₀ on
+unfoldable pub fresh : List ℕ → Engine
+fresh h₀ = record { h = h₀; buffer = replicate blockBytes 0; filled = 0; low = 0; high = 0 }
 
 -- the buffer's block is compressed as one that is not the last, and the buffer is empty again
-unfoldable pub flushed : State → State
+unfoldable pub flushed : Engine → Engine
 flushed s =
     record {
       h = F (s .h) (words (s .buffer)) (count s + blockBytes) false;
@@ -25,31 +25,21 @@ flushed s =
       filled = 0;
       low = (count s + blockBytes) % 2 ^ 64;
       high = (count s + blockBytes) / 2 ^ 64 % 2 ^ 64;
-      output = s .output;
     }
 
 -- one byte into a buffer that has room
-unfoldable pub put : State → ℕ → State
-put s b =
-    record { h = s .h; buffer = set (s .buffer) (s .filled) b; filled = s .filled + 1; low = s .low; high = s .high; output = s .output }
+unfoldable pub put : Engine → ℕ → Engine
+put s b = record { h = s .h; buffer = set (s .buffer) (s .filled) b; filled = s .filled + 1; low = s .low; high = s .high }
 
 -- one byte: a full buffer is compressed only when another byte comes
-unfoldable pub feedByte : State → ℕ → State
+unfoldable pub feedByte : Engine → ℕ → Engine
 feedByte s b = cond (ltb (s .filled) blockBytes) (put s b) (put (flushed s) b)
 
 -- the bytes of a piece, in their order
-unfoldable pub feedAll : State → List ℕ → State
+unfoldable pub feedAll : Engine → List ℕ → Engine
 feedAll s [] = s
 feedAll s (b ∷ bs) = feedAll (feedByte s b) bs
 
--- the 64 bytes of the state, with the buffer's block as the last
-unfoldable pub sealed : State → List ℕ
+-- the 64 bytes of the engine's state, with the buffer's block as the last
+unfoldable pub sealed : Engine → List ℕ
 sealed s = bytes (F (s .h) (words (s .buffer)) (count s + s .filled) true)
-
--- the digest: as many bytes as the output has, up to 64, and zeros after them
-unfoldable pub ended : State → List ℕ
-ended s = take (s .output) (sealed s) ++ replicate (maxOutput - s .output) 0
-
--- 01, "Answers": an output of no bytes gives 11, and one of more than `most` bytes 12
-abbrev pub outputRows : ℕ → ℕ → List Row
-outputRows most n = (11 when eqb n 0) ∷ (12 when ltb most n) ∷ []

@@ -5,24 +5,21 @@ use lib.ListN.{take, replicate}
 use Rattle.word.specs.Word.{toLe}
 use Rattle.blake2b.specs.Blake2b.{maxOutput, blake2b}
 
--- 3.3, the longest output, 2^32 - 1, and the bytes of LE32
-abbrev pub maxLength : ℕ
-maxLength = 0xffffffff
-
+-- 3.3, the bytes of LE32
 abbrev pub lengthBytes : ℕ
 lengthBytes = 4
 
 -- 3.3, the bytes of W_i, the first half of a hash
-abbrev pub half : ℕ
-half = 32
+abbrev pub halfHash : ℕ
+halfHash = 32
 
 -- 3.3, r = ceil(T / 32) - 2; 0 up to 64
 unfoldable pub halves : ℕ → ℕ
-halves n = (n + 31) / half - 2
+halves n = (n + (halfHash - 1)) / halfHash - 2
 
 -- 01, the lengths that are put out: W_1 to W_r, then what remains
 unfoldable pub pieces : ℕ → List ℕ
-pieces n = replicate (halves n) half ++ (n - half * halves n) ∷ []
+pieces n = replicate (halves n) halfHash ++ (n - halfHash * halves n) ∷ []
 
 -- 3.3, the pieces' bytes, where the first one is a hash of x: W_1 || W_2 || .. || V_(r+1)
 unfoldable pub joined : List ℕ → List ℕ → List ℕ

@@ -2,7 +2,7 @@
 use Prim.Native.Nat.{ℕ}
 use mathlib.Core.List.{List}
 use mathlib.Core.Path.{_≡_, ap, sym, _∙_}
-use Rattle.block.specs.Promises.{PermutePromise, NewPromise, XorPromise, CompressPromise}
+use Rattle.block.specs.Promises.{PermutePromise, NewPromise, FromBytesPromise, ToBytesPromise, XorPromise, CompressPromise}
 use Rattle.block.specs.declared.Block.{Block}
 
 -- a block is its words
@@ -14,6 +14,12 @@ permute-settled p p′ = p .result ∙ sym (p′ .result)
 
 pub new-settled : {r r′ : Block} → NewPromise r → NewPromise r′ → r ≡ r′
 new-settled p p′ = same-block (p .result ∙ sym (p′ .result))
+
+pub from-bytes-settled : {s : List ℕ} {r r′ : Block} → FromBytesPromise s r → FromBytesPromise s r′ → r ≡ r′
+from-bytes-settled p p′ = same-block (p .result ∙ sym (p′ .result))
+
+pub to-bytes-settled : {x : Block} {r r′ : List ℕ} → ToBytesPromise x r → ToBytesPromise x r′ → r ≡ r′
+to-bytes-settled p p′ = p .result ∙ sym (p′ .result)
 
 pub xor-settled : {x y r r′ : Block} → XorPromise x y r → XorPromise x y r′ → r ≡ r′
 xor-settled p p′ = same-block (p .result ∙ sym (p′ .result))

@@ -4,7 +4,7 @@ use mathlib.Core.List.{List, [], _∷_}
 use lib.Bits.{bitXor}
 use lib.ListN.{getD, set}
 use Rattle.word.specs.Table.{table}
-use Rattle.word.specs.Word.{rotr}
+use Rattle.word.specs.Word.{wordBytes, rotr, lowHalf}
 
 -- 3.2, the bytes of a block
 abbrev pub blockBytes : ℕ
@@ -12,7 +12,7 @@ blockBytes = 1024
 
 -- 3.2, its words of 64 bits
 abbrev pub blockWords : ℕ
-blockWords = blockBytes / 8
+blockWords = blockBytes / wordBytes
 
 -- 3.5, the words of a 16-byte register
 abbrev pub registerWords : ℕ
@@ -30,25 +30,34 @@ rowWords = side * registerWords
 abbrev pub zeros : List ℕ
 zeros = table (λ n. 0) blockWords
 
--- 3.6, the 32 low bits of a word
-abbrev pub trunc : ℕ → ℕ
-trunc a = a % 2 ^ 32
+-- 3.6, a + b + 2 * trunc(a) * trunc(b), mod 2^64, where trunc(a) is the low half of a
+unfoldable pub multiplyAdd : ℕ → ℕ → ℕ
+multiplyAdd a b = (a + b + 2 * (lowHalf a * lowHalf b)) % 2 ^ 64
 
--- 3.6, a + b + 2 * trunc(a) * trunc(b), mod 2^64
-unfoldable pub mix : ℕ → ℕ → ℕ
-mix a b = (a + b + 2 * (trunc a * trunc b)) % 2 ^ 64
+-- 3.6, the rotations of GB
+abbrev pub R1 : ℕ
+R1 = 32
+
+abbrev pub R2 : ℕ
+R2 = 24
+
+abbrev pub R3 : ℕ
+R3 = 16
+
+abbrev pub R4 : ℕ
+R4 = 63
 
 -- 3.6, GB(a, b, c, d): the four words after it
 unfoldable pub quarter : ℕ → ℕ → ℕ → ℕ → List ℕ
 quarter a b c d =
-    let a1 = mix a b in
-    let d1 = rotr 32 (bitXor d a1) in
-    let c1 = mix c d1 in
-    let b1 = rotr 24 (bitXor b c1) in
-    let a2 = mix a1 b1 in
-    let d2 = rotr 16 (bitXor d1 a2) in
-    let c2 = mix c1 d2 in
-    let b2 = rotr 63 (bitXor b1 c2) in
+    let a1 = multiplyAdd a b in
+    let d1 = rotr R1 (bitXor d a1) in
+    let c1 = multiplyAdd c d1 in
+    let b1 = rotr R2 (bitXor b c1) in
+    let a2 = multiplyAdd a1 b1 in
+    let d2 = rotr R3 (bitXor d1 a2) in
+    let c2 = multiplyAdd c1 d2 in
+    let b2 = rotr R4 (bitXor b1 c2) in
     a2 ∷ b2 ∷ c2 ∷ d2 ∷ []
 
 -- 3.6, GB(v_a, v_b, v_c, v_d) of the words v

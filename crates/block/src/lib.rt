@@ -1,49 +1,73 @@
 // Argon2's block and its compression (RFC 9106, sections 3.5 and 3.6).
 ghost use mathlib.Core.Path.{_≡_};
+ghost use lib.Bits.{bitXor};
 ghost use lib.ListN.{length};
+ghost use Rattle.word.specs.Word.{rotr};
 ghost use Prim.Native.Nat.{ℕ, _+_, _*_, _<_};
 ghost use Rattle.block.specs.Block as spec;
 ghost use Rattle.block.specs.Line.{Inside, Laid, Cut, Permuted};
-ghost use Rattle.block.specs.Promises.{PermutePromise, NewPromise, XorPromise, CompressPromise};
+ghost use Rattle.block.specs.Promises.{PermutePromise, NewPromise, FromBytesPromise, ToBytesPromise, XorPromise, CompressPromise};
+use word::WORD;
+use word::load_words;
+use word::low_half;
 use word::rotr16;
 use word::rotr24;
 use word::rotr32;
 use word::rotr63;
+use word::store_words;
 
 // A block of memory, as words.
 pub struct Block {
     pub words: [u64; Block::WORDS],
 }
 
-// The 32 low bits of a word.
-fn trunc(a: u64) -> u64
-    ensures { λ r. ⌜ r ≡ spec.trunc a ⌝ }
-{
-    a % 0x1_0000_0000
-}
-
 // The sum of two words and of twice the product of their low halves; each sum wraps at 64 bits.
-fn mix(a: u64, b: u64) -> u64
-    ensures { λ r. ⌜ r ≡ spec.mix a b ⌝ }
+fn multiply_add(a: u64, b: u64) -> u64
+    ensures { λ r. ⌜ r ≡ spec.multiplyAdd a b ⌝ }
 {
-    let product = trunc(a) * trunc(b);
+    let product = low_half(a) * low_half(b);
     let sum = std::num::wrapping_add_u64(a, b);
     let doubled = std::num::wrapping_add_u64(product, product);
     std::num::wrapping_add_u64(sum, doubled)
+}
+
+// The XOR of two words, turned by the first, second, third and fourth rotation of a quarter step.
+fn turn1(x: u64, y: u64) -> u64
+    ensures { λ r. ⌜ r ≡ rotr spec.R1 (bitXor x y) ⌝ }
+{
+    rotr32(x ^ y)
+}
+
+fn turn2(x: u64, y: u64) -> u64
+    ensures { λ r. ⌜ r ≡ rotr spec.R2 (bitXor x y) ⌝ }
+{
+    rotr24(x ^ y)
+}
+
+fn turn3(x: u64, y: u64) -> u64
+    ensures { λ r. ⌜ r ≡ rotr spec.R3 (bitXor x y) ⌝ }
+{
+    rotr16(x ^ y)
+}
+
+fn turn4(x: u64, y: u64) -> u64
+    ensures { λ r. ⌜ r ≡ rotr spec.R4 (bitXor x y) ⌝ }
+{
+    rotr63(x ^ y)
 }
 
 // The quarter step: four words after it.
 fn quarter(a: u64, b: u64, c: u64, d: u64) -> [u64; 4]
     ensures { λ r. ⌜ r ≡ spec.quarter a b c d ⌝ }
 {
-    let a1 = mix(a, b);
-    let d1 = rotr32(d ^ a1);
-    let c1 = mix(c, d1);
-    let b1 = rotr24(b ^ c1);
-    let a2 = mix(a1, b1);
-    let d2 = rotr16(d1 ^ a2);
-    let c2 = mix(c1, d2);
-    let b2 = rotr63(b1 ^ c2);
+    let a1 = multiply_add(a, b);
+    let d1 = turn1(d, a1);
+    let c1 = multiply_add(c, d1);
+    let b1 = turn2(b, c1);
+    let a2 = multiply_add(a1, b1);
+    let d2 = turn3(d1, a2);
+    let c2 = multiply_add(c1, d2);
+    let b2 = turn4(b1, c2);
     [a2, b2, c2, d2]
 }
 
@@ -127,12 +151,26 @@ fn lines(q: Block, between: usize, step: usize) -> Block
     Block { words: z }
 }
 
+// The permutation on every row.
+fn rows(q: Block) -> Block
+    ensures { λ r. ⌜ r .words ≡ spec.rows (q .words) ⌝ }
+{
+    lines(q, Block::SIDE, 1)
+}
+
+// The permutation on every column.
+fn columns(q: Block) -> Block
+    ensures { λ r. ⌜ r .words ≡ spec.columns (q .words) ⌝ }
+{
+    lines(q, 1, Block::SIDE)
+}
+
 impl Block {
     // The bytes of a block.
     pub const SIZE: usize = 1024;
 
     // Its words.
-    pub const WORDS: usize = Block::SIZE / 8;
+    pub const WORDS: usize = Block::SIZE / WORD;
 
     // The words of a register.
     pub const REGISTER: usize = 2;
@@ -150,6 +188,25 @@ impl Block {
         Block {
             words: [0; Block::WORDS],
         }
+    }
+
+    // The block of some bytes, whose words are little-endian.
+    pub fn from_bytes(bytes: [u8; Block::SIZE]) -> Block
+        ensures { λ r. ⌜ FromBytesPromise bytes r ⌝ }
+    {
+        let mut read = [0; Block::WORDS];
+        load_words(&bytes, &mut read);
+        Block { words: read }
+    }
+
+    // The bytes of a block.
+    pub fn to_bytes(self) -> [u8; Block::SIZE]
+        ensures { λ r. ⌜ ToBytesPromise self r ⌝ }
+    {
+        let words = self.words;
+        let mut written = [0; Block::SIZE];
+        store_words(&words, &mut written);
+        written
     }
 
     // Two blocks, XORed word by word.
@@ -170,8 +227,8 @@ impl Block {
         ensures { λ r. ⌜ CompressPromise x y r ⌝ }
     {
         let r = Block::xor(x, y);
-        let q = lines(r, Block::SIDE, 1);
-        let z = lines(q, 1, Block::SIDE);
+        let q = rows(r);
+        let z = columns(q);
         Block::xor(z, r)
     }
 }

@@ -3,7 +3,7 @@ use Prim.Native.Nat.{ℕ, _+_, _*_, _/_, _%_, _^_, _<_}
 use mathlib.Core.Path.{_≡_, refl, sym, ap, ap₂, _∙_}
 use native.Mathlib.Omega.{arith}
 use native.Mathlib.Nat.{mul-add, add-mul, mul-assoc, mul-comm, add-mul-mod-self-right, add-mod-mod, div-add-mod'}
-use Rattle.block.proofs.Mixing.{product-lt}
+use Rattle.word.proofs.Half.{product-lt}
 use Rattle.lent.specs.Lent.{step}
 
 -- what wraps away of the four products of halves

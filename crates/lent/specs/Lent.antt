@@ -5,7 +5,7 @@ use mathlib.Core.List.{List}
 use lib.Bits.{bitXor}
 use lib.Dec.{eqb}
 use Rattle.word.specs.Table.{table}
-use Rattle.blake2b.specs.Blake2b.{bytes}
+use Rattle.word.specs.Word.{bytes}
 use Rattle.blake2b_long.specs.Long.{long}
 
 -- splitmix64: what a step adds to its state, and the factors of its output

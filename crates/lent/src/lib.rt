@@ -5,13 +5,11 @@ ghost use mathlib.Core.Path.{_≡_};
 ghost use Prim.Native.Nat.{_*_, _%_, _^_};
 ghost use Rattle.lent.specs.Lent.{mixed, drawn, digestBytes};
 ghost use Rattle.lent.specs.Promises.{DirtyPromise, DirtyBytesPromise, DigestPromise};
-use blake2b::State;
+use blake2b::Engine;
 use std::num::wrapping_add_u64;
+use word::HALF;
 use word::to_le32;
 use word::to_le64;
-
-// The numbers of 32 bits.
-const HALF: u64 = 0x1_0000_0000;
 
 // splitmix64's step and its two factors.
 const STEP: u64 = 0x9e37_79b9_7f4a_7c15;
@@ -75,15 +73,12 @@ pub fn dirty_bytes(seed: u64, bytes: &mut [u8])
 }
 
 // The first bytes of a hash.
-fn front(hash: [u8; State::MAX_OUTPUT]) -> [u8; DIGEST]
+fn front(hash: [u8; Engine::MAX_OUTPUT]) -> [u8; DIGEST]
     ensures { λ r. ⌜ r ≡ take digestBytes hash ⌝ }
 {
+    let whole = &hash[..];
     let mut digest = [0u8; DIGEST];
-    let mut i = 0;
-    while i < DIGEST {
-        digest[i] = hash[i];
-        i += 1;
-    }
+    bytes::copy(&whole[..DIGEST], &mut digest);
     digest
 }
 
@@ -92,7 +87,7 @@ pub fn digest(words: &[u64]) -> [u8; DIGEST]
     ensures { λ r. ⌜ DigestPromise (now (words .entry)) r ⌝ }
 {
     let count = to_le32(DIGEST as u32);
-    let mut s = State::begin(DIGEST);
+    let mut s = Engine::begin(Engine::initial(DIGEST));
     s = s.feed(&count);
     let mut i = 0;
     while i < words.len() {

@@ -1,3 +1,4 @@
 pub mod Settled
 pub mod Sizes
+pub mod Versions
 pub mod Within

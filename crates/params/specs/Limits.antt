@@ -63,9 +63,9 @@ among n (x ∷ xs) = eqb n x || among n xs
 abbrev pub algorithmInvalid : ℕ → Row
 algorithmInvalid algorithm = 1 when not (among algorithm (d ∷ i ∷ id ∷ []))
 
--- 2: version not one of these
-abbrev pub versionInvalid : List ℕ → ℕ → Row
-versionInvalid versions version = 2 when not (among version versions)
+-- 2: version not 16 or 19, or before the oldest that is taken
+abbrev pub versionInvalid : ℕ → ℕ → Row
+versionInvalid oldest version = 2 when not (among version (v10 ∷ v13 ∷ [])) || ltb version oldest
 
 -- 3: no lanes
 abbrev pub threadsTooFew : ℕ → Row
@@ -99,13 +99,20 @@ tagTooShort configured = 8 when underMinTag configured
 abbrev pub costRows : ℕ → ℕ → ℕ → List Row
 costRows p m t = threadsTooFew p ∷ threadsTooMany p ∷ memoryTooSmall m p ∷ memoryTooMuch m ∷ timeTooSmall t ∷ []
 
--- rows 1 to 8
-abbrev pub rows : Params → List Row
-rows P =
+-- rows 1 to 7, where no version before the oldest is taken
+abbrev pub numberRows : ℕ → Params → List Row
+numberRows oldest P =
     algorithmInvalid (P .algorithm)
-    ∷ versionInvalid (v10 ∷ v13 ∷ []) (P .version)
+    ∷ versionInvalid oldest (P .version)
     ∷ costRows (P .lanes) (P .memory) (P .passes)
-    ++ (tagTooShort (P .configured) ∷ [])
+
+-- rows 1 to 8, where no version before the oldest is taken
+abbrev pub rowsFrom : ℕ → Params → List Row
+rowsFrom oldest P = numberRows oldest P ++ (tagTooShort (P .configured) ∷ [])
+
+-- document 01's rows 1 to 8: the oldest version is 16
+abbrev pub rows : Params → List Row
+rows P = rowsFrom v10 P
 
 -- s = floor(m / 4p), of m and p
 unfoldable pub segmentLength : ℕ → ℕ → ℕ

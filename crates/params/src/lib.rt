@@ -1,5 +1,5 @@
 // Document 01's numbers: the parameters, their limits and the sizes that they give.
-ghost use Rattle.params.specs.Promises.{CostsPromise, CheckPromise, SegmentPromise, LanePromise, BlocksPromise, FromNumbersPromise};
+ghost use Rattle.params.specs.Promises.{CostsPromise, CheckNumbersPromise, CheckFromPromise, CheckPromise, SegmentOfPromise, SegmentPromise, LanePromise, BlocksPromise, FromNumbersPromise};
 ghost use mathlib.Core.Path.{_≡_};
 ghost use Rattle.params.specs.Limits.{configuredOf};
 use answer::Answer;
@@ -59,9 +59,6 @@ impl Params {
 
     pub const MAX_DATA: usize = 32;
 
-    // The most bytes of a password, a salt, a secret and a tag.
-    pub const MAX_LENGTH: usize = 0xffff_ffff;
-
     // The parameters of six numbers, as the program and the C boundary have them: a configured length of 0 stands for none.
     pub fn from_numbers(
         algorithm: u32,
@@ -106,21 +103,28 @@ impl Params {
         Answer::Accepted
     }
 
-    // The first of document 01's rows 1 to 8 that holds.
-    pub fn check(self) -> Answer
-        ensures { λ r. ⌜ CheckPromise self r ⌝ }
+    // The first of document 01's rows 1 to 7 that holds, where no version before the oldest is taken.
+    pub fn check_numbers(self, oldest: u32) -> Answer
+        ensures { λ r. ⌜ CheckNumbersPromise self oldest r ⌝ }
     {
         let algorithm = self.algorithm;
         if (algorithm != Params::D) & (algorithm != Params::I) & (algorithm != Params::ID) {
             return Answer::AlgorithmInvalid;
         }
         let version = self.version;
-        if (version != Params::V0X10) & (version != Params::V0X13) {
+        if ((version != Params::V0X10) & (version != Params::V0X13)) | (version < oldest) {
             return Answer::VersionInvalid;
         }
-        let costs = Params::check_costs(self.lanes, self.memory, self.passes);
-        if costs.number() != 0 {
-            return costs;
+        Params::check_costs(self.lanes, self.memory, self.passes)
+    }
+
+    // The first of rows 1 to 8 that holds, where no version before the oldest is taken.
+    pub fn check_from(self, oldest: u32) -> Answer
+        ensures { λ r. ⌜ CheckFromPromise self oldest r ⌝ }
+    {
+        let numbers = self.check_numbers(oldest);
+        if numbers.number() != 0 {
+            return numbers;
         }
         let configured = self.configured;
         match configured {
@@ -135,16 +139,28 @@ impl Params {
         }
     }
 
-    // s = floor(m / 4p), and 0 without lanes.
-    pub fn segment_length(self) -> u32
-        ensures { λ r. ⌜ SegmentPromise self r ⌝ }
+    // The first of document 01's rows 1 to 8 that holds: version 16 is taken.
+    pub fn check(self) -> Answer
+        ensures { λ r. ⌜ CheckPromise self r ⌝ }
     {
-        let lanes = self.lanes as u64;
+        self.check_from(Params::V0X10)
+    }
+
+    // s = floor(m / 4p), of m and p; 0 without lanes.
+    pub fn segment_of(memory: u32, lanes: u32) -> u32
+        ensures { λ r. ⌜ SegmentOfPromise memory lanes r ⌝ }
+    {
         if lanes == 0 {
             return 0;
         }
-        let memory = self.memory as u64;
-        (memory / (Params::SYNC_POINTS as u64 * lanes)) as u32
+        (memory as u64 / (Params::SYNC_POINTS as u64 * lanes as u64)) as u32
+    }
+
+    // The segment length of these parameters.
+    pub fn segment_length(self) -> u32
+        ensures { λ r. ⌜ SegmentPromise self r ⌝ }
+    {
+        Params::segment_of(self.memory, self.lanes)
     }
 
     // q = 4s.

@@ -3,7 +3,7 @@
 use mathlib.Core.Bool.{true, false, _&&_, and-eq-true-iff}
 use mathlib.Core.List.{[], _∷_}
 use mathlib.Core.Logic.{_≢_}
-use mathlib.Core.Path.{_≡_, sym, ap, _∙_}
+use mathlib.Core.Path.{_≡_, sym, ap, ap₂, _∙_}
 use Prim.Native.Nat.{ℕ, _≤_, _<_}
 use native.Mathlib.Omega.{arith}
 use lib.Dec.{ltb, leb, eqb}
@@ -11,10 +11,11 @@ use borrow.Author.Tests.{ltb-true, leb-true, lt-ltb, le-leb, ne-eqb}
 use Rattle.answer.specs.Answers.{number, first}
 use Rattle.answer.specs.declared.Answer.the-variants.{Inconsistent}
 use Rattle.answer.proofs.Rows.{first-refused, first-passed}
-use Rattle.params.specs.Limits.{slices, costRows, segmentLength}
+use Rattle.params.specs.Limits.{slices, costRows, segmentLength, segment}
+use Rattle.params.specs.declared.Params.{Params}
 use Rattle.params.proofs.Within.{Within, within-accepted}
-use Rattle.position.specs.Position.{firstBlock, referenceLane, referenceColumn, fills, positionInvalid, positionRows}
-use Rattle.position.specs.Promises.{ReferencePromise}
+use Rattle.position.specs.Position.{firstBlock, index, referenceLane, referenceColumn, reference, fills, positionInvalid, positionRows}
+use Rattle.position.specs.Promises.{IndexPromise, ReferencePromise}
 use Rattle.position.specs.declared.Reference.{Reference}
 
 -- a block that a step fills: the tests as facts
@@ -94,3 +95,13 @@ module _ {p m t r sl l k x : ℕ} {o : Reference} where
   reference-accepted w f q =
       let z = position-accepted w f in
       (q .answer ∙ z, q .lane ∙ rw z, q .block ∙ rw z)
+
+-- and the number in memory of that block
+pub reference-index : {P : Params} {r sl l k x n : ℕ} {o : Reference}
+    → first (positionRows (P .lanes) (P .memory) (P .passes) r sl l k) ≡ 0
+    → ReferencePromise (P .lanes) (P .memory) (P .passes) r sl l k x o → IndexPromise P (o .lane) (o .block) n
+    → n ≡ reference (P .lanes) (segment P) r sl l k x
+reference-index {P} {r} {sl} {l} {k} {x} {n} {o} z q i =
+    let a : o .lane .0 ≡ referenceLane (P .lanes) r sl l x = q .lane ∙ rw z in
+    let c : o .block .0 ≡ referenceColumn (P .lanes) (segment P) r sl l k x = q .block ∙ rw z in
+    i .result ∙ ap₂ (λ (lane column : ℕ). index (segment P) lane column) a c

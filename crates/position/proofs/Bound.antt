@@ -3,42 +3,43 @@
 use mathlib.Core.Bool.{Bool, true, false, cond}
 use mathlib.Core.Logic.{_≢_}
 use mathlib.Core.Path.{_≡_, refl}
-use Prim.Native.Nat.{ℕ, _+_, _-_, _*_, _/_, _%_, _^_, _≤_, _<_}
+use Prim.Native.Nat.{ℕ, _+_, _-_, _*_, _/_, _≤_, _<_}
 use native.Mathlib.Nat.{div-lt-iff-lt-mul, mul-lt-mul-of-pos-left}
 use native.Mathlib.Omega.{arith}
 use lib.Dec.{eqb}
 use borrow.Author.Tests.{eqb-false}
-use Rattle.block.proofs.Mixing.{product-lt}
 use Rattle.params.specs.Limits.{slices}
-use Rattle.position.specs.Position.{referenceLane, finished, area}
+use Rattle.word.specs.Word.{half, lowHalf}
+use Rattle.word.proofs.Half.{product-lt}
+use Rattle.position.specs.Position.{referenceLane, finishedLength, area}
 use Rattle.position.proofs.Accepted.{Filled}
 use Rattle.position.proofs.Referring.{area-own, area-other, finished-some, not-first}
 
 -- x = floor(J² / 2^32), of the random word's low half J
 abbrev pub square : ℕ → ℕ
-square x = x % 2 ^ 32 * (x % 2 ^ 32) / 2 ^ 32
+square x = lowHalf x * lowHalf x / half
 
-square-lt : (x : ℕ) → square x < 2 ^ 32
-square-lt x = omega (arith, product-lt 32 {a = x % 2 ^ 32} {b = x % 2 ^ 32} (omega arith) (omega arith))
+pub square-lt : (x : ℕ) → square x < half
+square-lt x = omega (arith, product-lt 32 {a = lowHalf x} {b = lowHalf x} (omega arith) (omega arith))
 
 -- where there is an area, what the square takes of it is less than all
-pub share-lt : (a x : ℕ) → 1 ≤ a → a * square x / 2 ^ 32 < a
+pub share-lt : (a x : ℕ) → 1 ≤ a → a * square x / half < a
 share-lt a x h =
-    div-lt-iff-lt-mul {k = 2 ^ 32} {x = a * square x} {y = a} (omega arith) .1 (mul-lt-mul-of-pos-left (square-lt x) h)
+    div-lt-iff-lt-mul {k = half} {x = a * square x} {y = a} (omega arith) .1 (mul-lt-mul-of-pos-left (square-lt x) h)
 
 -- whether the random word x refers to the own lane
 abbrev pub own : ℕ → ℕ → ℕ → ℕ → ℕ → Bool
 own p r sl l x = eqb (referenceLane p r sl l x) l
 
 pub record AreaBound (p s r sl l k x : ℕ) : Type 0 where
-  -- what `finished` takes away is there
+  -- what `finishedLength` takes away is there
   pub of-lane : s ≤ slices * s
   -- what `area` takes away is there, in the own lane and in another
-  pub of-own : own p r sl l x ≡ true → 1 ≤ finished s r sl + k
-  pub of-other : own p r sl l x ≡ false → cond (eqb k 0) 1 0 ≤ finished s r sl
+  pub of-own : own p r sl l x ≡ true → 1 ≤ finishedLength s r sl + k
+  pub of-other : own p r sl l x ≡ false → cond (eqb k 0) 1 0 ≤ finishedLength s r sl
   -- what `place` takes away is there
   pub some : 1 ≤ area s r sl k (own p r sl l x)
-  pub share : area s r sl k (own p r sl l x) * square x / 2 ^ 32 ≤ area s r sl k (own p r sl l x) - 1
+  pub share : area s r sl k (own p r sl l x) * square x / half ≤ area s r sl k (own p r sl l x) - 1
 
 module _ {p s t r sl l k : ℕ} (two : 2 ≤ s) (f : Filled p s t r sl l k) (x : ℕ) where
   from-one : 1 ≤ p

@@ -1,4 +1,4 @@
--- Document 01, "Cases": what P1 to P8 and P10 say of sizes and positions, one record, one statement. Each line cites a definition that the
+-- Document 01, "Cases": what P1 to P8 say of sizes and positions, one record, one statement. Each line cites a definition that the
 -- promises use. Assumes nothing.
 use mathlib.Core.Bool.{true, false}
 use mathlib.Core.Path.{_≡_, refl}
@@ -8,8 +8,7 @@ use native.Mathlib.Omega.{arith}
 use borrow.Author.Tests.{eq-eqb}
 use Rattle.params.specs.Limits.{slices, segment, segmentLength, blocks}
 use Rattle.params.specs.declared.Params.{Params}
-use Rattle.position.specs.Address.{addressCounter, addressPlace}
-use Rattle.position.specs.Position.{referenceLane, finished, area, place, start, referenceColumn}
+use Rattle.position.specs.Position.{referenceLane, finishedLength, area, place, areaStart, referenceColumn}
 
 pub record PositionCases : Type 0 where
   -- P1: m = 8, p = 1 gives s = 2, m' = 8
@@ -37,12 +36,9 @@ pub record PositionCases : Type 0 where
   pub p8-place : place (area 2 1 1 1 true) 0 ≡ 5
   pub p8-slice-one : referenceColumn 1 2 1 1 0 1 0 ≡ 1
   pub p8-slice-three : referenceColumn 1 2 1 3 0 1 0 ≡ 5
-  -- P10: block 127 uses counter 1, word 127; block 128 counter 2, word 0
-  pub p10-last : (addressCounter 127 ≡ 1) × (addressPlace 127 ≡ 127)
-  pub p10-next : (addressCounter 128 ≡ 2) × (addressPlace 128 ≡ 0)
 
 one-block : (s : ℕ) → area s 0 0 2 true ≡ 1
-unfolding area finished
+unfolding area finishedLength
 one-block s = omega arith
 
 -- an area of one block has one place
@@ -50,8 +46,8 @@ one-place : (x : ℕ) → place 1 x ≡ 0
 unfolding place
 one-place x = omega arith
 
-from-zero : (s : ℕ) → start s 0 0 ≡ 0
-unfolding start
+from-zero : (s : ℕ) → areaStart s 0 0 ≡ 0
+unfolding areaStart
 from-zero s = refl
 
 block-zero : (p s l x : ℕ) → referenceColumn p s 0 0 l 2 x ≡ 0
@@ -59,7 +55,7 @@ unfolding referenceColumn referenceLane
 block-zero p s l x = rw (eq-eqb l l refl, one-block s, one-place x, from-zero s) (zero-mod (slices * s))
 
 pub cases : PositionCases
-unfolding segmentLength finished area place start referenceLane referenceColumn
+unfolding segmentLength finishedLength area place areaStart referenceLane referenceColumn
 cases =
     record {
       p1-segment = λ P m p. rw (m, p);
@@ -79,6 +75,4 @@ cases =
       p8-place = refl;
       p8-slice-one = refl;
       p8-slice-three = refl;
-      p10-last = (refl, refl);
-      p10-next = (refl, refl);
     }

@@ -6,15 +6,15 @@ use native.Mathlib.Nat.{mul-le-mul-right}
 use native.Mathlib.Omega.{arith}
 use lib.Dec.{eqb, ltb}
 use Rattle.params.specs.Limits.{slices}
-use Rattle.position.specs.Position.{finished, area, place, start}
+use Rattle.position.specs.Position.{finishedLength, area, place, areaStart}
 
 -- the segments to a slice's end lie within the lane
 pub slice-le : (s sl : ℕ) → sl < slices → sl * s + s ≤ slices * s
 slice-le s sl four = omega (arith, mul-le-mul-right s four)
 
 -- the finished segments are at most a lane without one segment
-pub finished-le : (s r sl : ℕ) → sl < slices → finished s r sl + s ≤ slices * s
-unfolding finished
+pub finished-le : (s r sl : ℕ) → sl < slices → finishedLength s r sl + s ≤ slices * s
+unfolding finishedLength
 finished-le s r sl four = go (eqb r 0)
   where
     go : (zero : Bool) → cond zero (sl * s) (slices * s - s) + s ≤ slices * s
@@ -31,11 +31,11 @@ pub place-le : (a x : ℕ) → place a x ≤ a
 unfolding place
 place-le a x = omega arith
 
-pub start-le : (s r sl : ℕ) → sl < slices → start s r sl ≤ slices * s
-unfolding start
+pub start-le : (s r sl : ℕ) → sl < slices → areaStart s r sl ≤ slices * s
+unfolding areaStart
 start-le s r sl four = go (eqb r 0) refl (ltb (sl + 1) slices) refl
   where
-    go : (t : Bool) → eqb r 0 ≡ t → (u : Bool) → ltb (sl + 1) slices ≡ u → start s r sl ≤ slices * s
+    go : (t : Bool) → eqb r 0 ≡ t → (u : Bool) → ltb (sl + 1) slices ≡ u → areaStart s r sl ≤ slices * s
     go true e u h = simp e (omega arith)
     go false e true h = simp (e, h) (omega (arith, slice-le s sl four))
     go false e false h = simp (e, h) (omega arith)

@@ -1,7 +1,7 @@
 pub mod Accepted
-pub mod AddressFree
 pub mod Bound
 pub mod Cases
+pub mod Columns
 pub mod Lane
 pub mod Referring
 pub mod Refers

@@ -2,19 +2,20 @@
 -- Assumes nothing.
 use mathlib.Core.Path.{_≡_, refl, sym, ap, _∙_, subst}
 use mathlib.Core.Logic.{_≢_, _⊎_, inl, inr}
-use mathlib.Core.Bool.{Bool, true, false, cond, not, _&&_}
-use Prim.Native.Nat.{ℕ, _+_, _-_, _*_, _/_, _%_, _^_, _≤_, _<_}
+use mathlib.Core.Bool.{Bool, true, false, cond, _&&_}
+use Prim.Native.Nat.{ℕ, _+_, _-_, _*_, _/_, _%_, _≤_, _<_}
 use native.Mathlib.Omega.{arith}
 use native.Mathlib.Nat.{mod-lt, mod-eq-of-lt, mod-eq-sub-mod, mul-le-mul-right}
 use lib.Dec.{ltb, eqb}
 use lib.Arith.{digits-div, digits-lt}
 use borrow.Author.Tests.{ltb-true, ltb-false, eqb-true, eqb-false, eq-eqb, ne-eqb}
 use Rattle.params.specs.Limits.{slices}
-use Rattle.position.specs.Position.{firstBlock, column, index, previousColumn, referenceLane, finished, area, place, start, referenceColumn}
+use Rattle.word.specs.Word.{highHalf}
+use Rattle.position.specs.Position.{firstBlock, index, previousColumn, referenceLane, finishedLength, area, place, areaStart, referenceColumn}
 use Rattle.position.proofs.Lane.{slice-le}
 
 -- a number that goes at most once round
-mod-once : (n q : ℕ) → n < q + q → ((n % q ≡ n) × (n < q)) ⊎ ((n % q + q ≡ n) × (q ≤ n))
+pub mod-once : (n q : ℕ) → n < q + q → ((n % q ≡ n) × (n < q)) ⊎ ((n % q + q ≡ n) × (q ≤ n))
 mod-once n q h = go (ltb n q) refl
   where
     go : (t : Bool) → ltb n q ≡ t → ((n % q ≡ n) × (n < q)) ⊎ ((n % q + q ≡ n) × (q ≤ n))
@@ -33,19 +34,19 @@ module _ (s r sl : ℕ) (two : 2 ≤ s) (four : sl < slices) where
   pub segments : sl * s + s ≤ slices * s
   segments = slice-le s sl four
 
-  finished-zero : eqb r 0 ≡ true → finished s r sl ≡ sl * s
-  unfolding finished
+  finished-zero : eqb r 0 ≡ true → finishedLength s r sl ≡ sl * s
+  unfolding finishedLength
   finished-zero e = ap (λ (t : Bool). cond t (sl * s) (slices * s - s)) e
 
-  finished-later : eqb r 0 ≡ false → finished s r sl ≡ 3 * s
-  unfolding finished
+  finished-later : eqb r 0 ≡ false → finishedLength s r sl ≡ 3 * s
+  unfolding finishedLength
   finished-later e = ap (λ (t : Bool). cond t (sl * s) (slices * s - s)) e ∙ omega arith
 
   -- but for the very first segment, a finished segment is there
-  pub finished-some : eqb r 0 && eqb sl 0 ≡ false → s ≤ finished s r sl
+  pub finished-some : eqb r 0 && eqb sl 0 ≡ false → s ≤ finishedLength s r sl
   finished-some h = go (eqb r 0) refl h
     where
-      go : (t : Bool) → eqb r 0 ≡ t → t && eqb sl 0 ≡ false → s ≤ finished s r sl
+      go : (t : Bool) → eqb r 0 ≡ t → t && eqb sl 0 ≡ false → s ≤ finishedLength s r sl
       go true e f =
           let n : sl ≢ 0 = eqb-false sl 0 f in
           let o : 1 ≤ sl = omega arith in
@@ -53,27 +54,27 @@ module _ (s r sl : ℕ) (two : 2 ≤ s) (four : sl < slices) where
       go false e f = omega (arith, finished-later e)
 
   -- the columns that a place reaches. `u` blocks of this segment stand before the end of what may be referred to, less `e`
-  module _ (z u e : ℕ) (short : u < s) (one : 1 ≤ e) (at : z + e ≤ finished s r sl + u) where
-    reaches-zero : eqb r 0 ≡ true → (start s r sl + z) % (slices * s) + e ≤ sl * s + u
-    unfolding start
+  module _ (z u e : ℕ) (short : u < s) (one : 1 ≤ e) (at : z + e ≤ finishedLength s r sl + u) where
+    reaches-zero : eqb r 0 ≡ true → (areaStart s r sl + z) % (slices * s) + e ≤ sl * s + u
+    unfolding areaStart
     reaches-zero t =
-        let st : start s r sl ≡ 0 = simp t in
-        let h : start s r sl + z < slices * s = omega (arith, finished-zero t, segments) in
+        let st : areaStart s r sl ≡ 0 = simp t in
+        let h : areaStart s r sl + z < slices * s = omega (arith, finished-zero t, segments) in
         omega (arith, mod-eq-of-lt h, finished-zero t)
 
-    reaches : ((start s r sl + z) % (slices * s) + e ≤ sl * s + u)
-        ⊎ ((sl * s + s ≤ (start s r sl + z) % (slices * s)) × ((start s r sl + z) % (slices * s) + e ≤ slices * s + sl * s + u))
-    unfolding start
+    reaches : ((areaStart s r sl + z) % (slices * s) + e ≤ sl * s + u)
+        ⊎ ((sl * s + s ≤ (areaStart s r sl + z) % (slices * s)) × ((areaStart s r sl + z) % (slices * s) + e ≤ slices * s + sl * s + u))
+    unfolding areaStart
     reaches = go (eqb r 0) refl (ltb (sl + 1) slices) refl
       where
         Goal : Type 0
         Goal =
-            ((start s r sl + z) % (slices * s) + e ≤ sl * s + u)
-            ⊎ ((sl * s + s ≤ (start s r sl + z) % (slices * s)) × ((start s r sl + z) % (slices * s) + e ≤ slices * s + sl * s + u))
+            ((areaStart s r sl + z) % (slices * s) + e ≤ sl * s + u)
+            ⊎ ((sl * s + s ≤ (areaStart s r sl + z) % (slices * s)) × ((areaStart s r sl + z) % (slices * s) + e ≤ slices * s + sl * s + u))
 
-        round : start s r sl ≡ sl * s + s → finished s r sl ≡ 3 * s
-            → (((start s r sl + z) % (slices * s) ≡ start s r sl + z) × (start s r sl + z < slices * s))
-            ⊎ (((start s r sl + z) % (slices * s) + slices * s ≡ start s r sl + z) × (slices * s ≤ start s r sl + z))
+        round : areaStart s r sl ≡ sl * s + s → finishedLength s r sl ≡ 3 * s
+            → (((areaStart s r sl + z) % (slices * s) ≡ areaStart s r sl + z) × (areaStart s r sl + z < slices * s))
+            ⊎ (((areaStart s r sl + z) % (slices * s) + slices * s ≡ areaStart s r sl + z) × (slices * s ≤ areaStart s r sl + z))
             → Goal
         round st wh (inl m) = inr (omega arith, omega arith)
         round st wh (inr m) = inl (omega arith)
@@ -81,16 +82,16 @@ module _ (s r sl : ℕ) (two : 2 ≤ s) (four : sl < slices) where
         go : (t : Bool) → eqb r 0 ≡ t → (v : Bool) → ltb (sl + 1) slices ≡ v → Goal
         go true t v w = inl (reaches-zero t)
         go false t true w =
-            let st : start s r sl ≡ (sl + 1) * s = simp (t, w) in
-            let st′ : start s r sl ≡ sl * s + s = omega arith in
-            let wh : finished s r sl ≡ 3 * s = finished-later t in
-            round st′ wh (mod-once (start s r sl + z) (slices * s) (omega (arith, segments)))
+            let st : areaStart s r sl ≡ (sl + 1) * s = simp (t, w) in
+            let st′ : areaStart s r sl ≡ sl * s + s = omega arith in
+            let wh : finishedLength s r sl ≡ 3 * s = finished-later t in
+            round st′ wh (mod-once (areaStart s r sl + z) (slices * s) (omega (arith, segments)))
         go false t false w =
-            let st : start s r sl ≡ 0 = simp (t, w) in
+            let st : areaStart s r sl ≡ 0 = simp (t, w) in
             let three : sl ≡ 3 = omega (arith, ltb-false (sl + 1) slices w) in
             let prod : sl * s ≡ 3 * s = ap (λ (b : ℕ). b * s) three in
-            let wh : finished s r sl ≡ 3 * s = finished-later t in
-            let h : start s r sl + z < slices * s = omega arith in
+            let wh : finishedLength s r sl ≡ 3 * s = finished-later t in
+            let h : areaStart s r sl + z < slices * s = omega arith in
             inl (omega (arith, mod-eq-of-lt h))
 
 -- ---- a block by its lane and reaches
@@ -111,19 +112,19 @@ module _
     unfolding referenceLane
     ref-lane = go (eqb r 0 && eqb sl 0)
       where
-        go : (t : Bool) → cond t l (x / 2 ^ 32 % p) < p
+        go : (t : Bool) → cond t l (highHalf x % p) < p
         go true = lane
-        go false = mod-lt (x / 2 ^ 32) one
+        go false = mod-lt (highHalf x) one
 
     pub ref-column : referenceColumn p s r sl l k x < slices * s
     unfolding referenceColumn
     ref-column =
-        mod-lt (start s r sl + place (area s r sl k (eqb (referenceLane p r sl l x) l)) x) (omega arith)
+        mod-lt (areaStart s r sl + place (area s r sl k (eqb (referenceLane p r sl l x) l)) x) (omega arith)
 
     -- in the first segment the reference lane is the own lane
     first-own : eqb r 0 && eqb sl 0 ≡ true → referenceLane p r sl l x ≡ l
     unfolding referenceLane
-    first-own e = ap (λ (t : Bool). cond t l (x / 2 ^ 32 % p)) e
+    first-own e = ap (λ (t : Bool). cond t l (highHalf x % p)) e
 
     -- so another lane is referred to only where a segment is finished
     pub not-first : referenceLane p r sl l x ≢ l → eqb r 0 && eqb sl 0 ≡ false
@@ -134,32 +135,32 @@ module _
         go false e = refl
 
     -- the area is at least 1, in every slice, for the own lane and any other
-    pub area-own : (1 ≤ area s r sl k true) × (area s r sl k true + 1 ≡ finished s r sl + k)
+    pub area-own : (1 ≤ area s r sl k true) × (area s r sl k true + 1 ≡ finishedLength s r sl + k)
     unfolding area
     area-own = go (eqb r 0 && eqb sl 0) refl
       where
         go : (t : Bool) → eqb r 0 && eqb sl 0 ≡ t
-            → (1 ≤ finished s r sl + k - 1) × (finished s r sl + k - 1 + 1 ≡ finished s r sl + k)
+            → (1 ≤ finishedLength s r sl + k - 1) × (finishedLength s r sl + k - 1 + 1 ≡ finishedLength s r sl + k)
         go true e =
             let h : 2 ≤ k = subst (λ (t : Bool). cond t 2 0 ≤ k) e from in
             (omega arith, omega arith)
         go false e = (omega (arith, finished-some s r sl two four e), omega (arith, finished-some s r sl two four e))
 
-    pub area-other : referenceLane p r sl l x ≢ l → (1 ≤ area s r sl k false) × (area s r sl k false ≤ finished s r sl)
+    pub area-other : referenceLane p r sl l x ≢ l → (1 ≤ area s r sl k false) × (area s r sl k false ≤ finishedLength s r sl)
     unfolding area
     area-other n = go (eqb k 0) refl
       where
-        some : s ≤ finished s r sl
+        some : s ≤ finishedLength s r sl
         some = finished-some s r sl two four (not-first n)
 
-        go : (v : Bool) → eqb k 0 ≡ v → (1 ≤ area s r sl k false) × (area s r sl k false ≤ finished s r sl)
+        go : (v : Bool) → eqb k 0 ≡ v → (1 ≤ area s r sl k false) × (area s r sl k false ≤ finishedLength s r sl)
         go true e = rw e (omega (arith, some), omega arith)
         go false e = rw e (omega (arith, some), omega arith)
 
     column-is : (own : Bool) → eqb (referenceLane p r sl l x) l ≡ own
-        → referenceColumn p s r sl l k x ≡ (start s r sl + place (area s r sl k own) x) % (slices * s)
+        → referenceColumn p s r sl l k x ≡ (areaStart s r sl + place (area s r sl k own) x) % (slices * s)
     unfolding referenceColumn
-    column-is own e = ap (λ (t : Bool). (start s r sl + place (area s r sl k t) x) % (slices * s)) e
+    column-is own e = ap (λ (t : Bool). (areaStart s r sl + place (area s r sl k t) x) % (slices * s)) e
 
     -- another lane's block is not in this slice; in pass 0 it is in a slice before
     pub ref-other : referenceLane p r sl l x ≢ l → (referenceColumn p s r sl l k x < sl * s) ⊎ (sl * s + s ≤ referenceColumn p s r sl l k x)
@@ -168,11 +169,11 @@ module _
         a : ℕ
         a = area s r sl k false
 
-        b : (1 ≤ a) × (a ≤ finished s r sl)
+        b : (1 ≤ a) × (a ≤ finishedLength s r sl)
         b = area-other n
 
         c : ℕ
-        c = (start s r sl + place a x) % (slices * s)
+        c = (areaStart s r sl + place a x) % (slices * s)
 
         is : referenceColumn p s r sl l k x ≡ c
         is = column-is false (ne-eqb (referenceLane p r sl l x) l n)
@@ -185,8 +186,8 @@ module _
     pub ref-other-zero : referenceLane p r sl l x ≢ l → eqb r 0 ≡ true → referenceColumn p s r sl l k x < sl * s
     ref-other-zero n t =
         let a : ℕ = area s r sl k false in
-        let b : (1 ≤ a) × (a ≤ finished s r sl) = area-other n in
-        let is : referenceColumn p s r sl l k x ≡ (start s r sl + place a x) % (slices * s) = column-is false (ne-eqb (referenceLane p r sl l x) l n) in
+        let b : (1 ≤ a) × (a ≤ finishedLength s r sl) = area-other n in
+        let is : referenceColumn p s r sl l k x ≡ (areaStart s r sl + place a x) % (slices * s) = column-is false (ne-eqb (referenceLane p r sl l x) l n) in
         omega (arith, is, reaches-zero s r sl two four (place a x) 0 1 (omega arith) (omega arith) (omega (arith, place-lt a x (b .0))) t)
 
     -- the own lane's block is before the previous one, or behind this slice and, going round, before the previous one
@@ -198,11 +199,11 @@ module _
         a : ℕ
         a = area s r sl k true
 
-        b : (1 ≤ a) × (a + 1 ≡ finished s r sl + k)
+        b : (1 ≤ a) × (a + 1 ≡ finishedLength s r sl + k)
         b = area-own
 
         c : ℕ
-        c = (start s r sl + place a x) % (slices * s)
+        c = (areaStart s r sl + place a x) % (slices * s)
 
         is : referenceColumn p s r sl l k x ≡ c
         is = column-is true (eq-eqb (referenceLane p r sl l x) l n)
@@ -216,8 +217,8 @@ module _
     pub ref-own-zero : referenceLane p r sl l x ≡ l → eqb r 0 ≡ true → referenceColumn p s r sl l k x + 2 ≤ sl * s + k
     ref-own-zero n t =
         let a : ℕ = area s r sl k true in
-        let b : (1 ≤ a) × (a + 1 ≡ finished s r sl + k) = area-own in
-        let is : referenceColumn p s r sl l k x ≡ (start s r sl + place a x) % (slices * s) = column-is true (eq-eqb (referenceLane p r sl l x) l n) in
+        let b : (1 ≤ a) × (a + 1 ≡ finishedLength s r sl + k) = area-own in
+        let is : referenceColumn p s r sl l k x ≡ (areaStart s r sl + place a x) % (slices * s) = column-is true (eq-eqb (referenceLane p r sl l x) l n) in
         omega (arith, is, reaches-zero s r sl two four (place a x) k 2 inside (omega arith) (omega (arith, place-lt a x (b .0))) t)
 
     in-lane : sl * s + k < slices * s

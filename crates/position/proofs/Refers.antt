@@ -1,15 +1,13 @@
 -- `refers`: of where a reference lies, the half that needs no run, for every pass, slice, lane and block that a step fills and any random
 -- word. Assumes nothing.
-use mathlib.Core.Bool.{Bool, true, false, cond}
 use mathlib.Core.Logic.{_≢_}
 use mathlib.Core.Path.{_≡_, ap}
-use Prim.Native.Nat.{ℕ, _-_, _*_, _≤_, _<_}
+use Prim.Native.Nat.{ℕ, _*_, _≤_, _<_}
 use native.Mathlib.Omega.{arith}
-use lib.Dec.{eqb}
 use Rattle.params.specs.Limits.{slices}
 use Rattle.position.specs.Position.{column, index, previousColumn, referenceLane, referenceColumn, reference}
 use Rattle.position.proofs.Accepted.{Filled}
-use Rattle.position.proofs.Lane.{slice-le}
+use Rattle.position.proofs.Columns.{previous-lt}
 use Rattle.position.proofs.Referring.{same-lane, index-lt, ref-lane, ref-column, ref-not-current, ref-not-previous, ref-not-beside}
 
 pub record Refers (p s r sl l k x : ℕ) : Type 0 where
@@ -21,14 +19,6 @@ pub record Refers (p s r sl l k x : ℕ) : Type 0 where
   pub not-previous : reference p s r sl l k x ≢ index s l (previousColumn s sl k)
   -- not in another lane's segment of the current slice
   pub not-beside : (b i : ℕ) → b ≢ l → i < s → reference p s r sl l k x ≢ index s b (column s sl i)
-
-previous-lt : (s sl k : ℕ) → 2 ≤ s → sl < slices → k < s → previousColumn s sl k < slices * s
-unfolding previousColumn
-previous-lt s sl k two four inside = go (eqb (column s sl k) 0)
-  where
-    go : (t : Bool) → cond t (slices * s - 1) (column s sl k - 1) < slices * s
-    go true = omega arith
-    go false = omega (arith, slice-le s sl four)
 
 module _ {p s t r sl l k : ℕ} (two : 2 ≤ s) (f : Filled p s t r sl l k) (x : ℕ) where
   from-one : 1 ≤ p
@@ -44,7 +34,7 @@ module _ {p s t r sl l k : ℕ} (two : 2 ≤ s) (f : Filled p s t r sl l k) (x :
         not-previous = λ e.
             let n : referenceLane p r sl l x ≡ l
             = same-lane s (referenceLane p r sl l x) l (referenceColumn p s r sl l k x) (previousColumn s sl k) c
-            (previous-lt s sl k two (f .slice) (f .inside)) e in
+            (previous-lt s sl k (f .slice) (f .inside)) e in
             ref-not-previous p s from-one two r sl l k x (f .slice) (f .lane) (f .inside) (f .from) n
             (omega (arith, e, ap (λ (a : ℕ). a * (slices * s)) n));
         not-beside = ref-not-beside p s from-one two r sl l k x (f .slice) (f .lane) (f .inside) (f .from);

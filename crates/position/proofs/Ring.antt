@@ -1,57 +1,22 @@
 -- Columns that follow each other, going round the lane: the shape of every part of the window. Laws on tables first. Assumes nothing.
-use mathlib.Core.Bool.{Bool, true, false, cond}
+use mathlib.Core.Bool.{Bool, cond}
 use mathlib.Core.List.{List, [], _∷_, _++_}
-use mathlib.Core.Logic.{_≢_}
+use mathlib.Core.Logic.{_≢_, _⊎_, inl, inr}
 use mathlib.Core.Path.{_≡_, refl, sym, ap, _∙_}
 use Prim.Native.Nat.{ℕ, zero, suc, _+_, _-_, _*_, _%_, _≤_, _<_}
-use native.Mathlib.Nat.{le-refl, mod-add-mod}
+use native.Mathlib.Nat.{le-refl, mod-lt, mod-add-mod}
 use native.Mathlib.Omega.{arith}
 use lib.Arith.{digits-div, digits-mod, mod-mul}
-use lib.Dec.{ltb}
-use lib.ListN.{length, getD, take, drop, length-append, length-drop, List·getD-append}
-use lib.Seq.{length-take-le, getD-take, getD-drop, getD-append-add}
-use borrow.Author.Tests.{ltb-true, ltb-false, eq-eqb, ne-eqb}
+use lib.ListN.{length, getD, take, drop}
+use borrow.Author.Tests.{eq-eqb, ne-eqb}
 use Rattle.params.specs.Limits.{slices}
 use Rattle.position.specs.Position.{column}
 use Rattle.position.specs.Window.{blocksOf, excluding, last, butLast}
+use Rattle.position.proofs.Referring.{mod-once}
 use Rattle.word.specs.Table.{table}
-use Rattle.word.proofs.Table.{length-table, getD-table, is-table, same-table}
+use Rattle.word.proofs.Table.{length-table, getD-table, same-table, table-append, drop-table, take-table}
 
--- ---- tables: one after another, without the first entries, without the last
-
-pub table-append : (f : ℕ → ℕ) (n m : ℕ) → table f n ++ table (λ i. f (n + i)) m ≡ table f (n + m)
-table-append f n m =
-    is-table f (n + m) (table f n ++ table g m)
-    (length-append (table f n) (table g m) ∙ omega (arith, length-table f n, length-table g m))
-    (λ i b. at i b (ltb i n) refl)
-  where
-    g : ℕ → ℕ
-    g i = f (n + i)
-
-    at : (i : ℕ) → i < n + m → (t : Bool) → ltb i n ≡ t → getD (table f n ++ table g m) i 0 ≡ f i
-    at i b true e =
-        let h : i < n = ltb-true i n e in
-        List·getD-append (table f n) (table g m) 0 i (omega (arith, length-table f n)) ∙ getD-table f n i h
-    at i b false e =
-        let h : n ≤ i = ltb-false i n e in
-        let j : ℕ = i - n in
-        let is : i ≡ length (table f n) + j = omega (arith, length-table f n) in
-        ap (λ (z : ℕ). getD (table f n ++ table g m) z 0) is
-        ∙ getD-append-add (table f n) (table g m) j 0
-        ∙ getD-table g m j (omega arith)
-        ∙ ap f (omega arith)
-
-pub drop-table : (f : ℕ → ℕ) (n j : ℕ) → drop j (table f n) ≡ table (λ i. f (j + i)) (n - j)
-drop-table f n j =
-    is-table (λ i. f (j + i)) (n - j) (drop j (table f n))
-    (length-drop j (table f n) ∙ ap (λ (z : ℕ). z - j) (length-table f n))
-    (λ i b. getD-drop j (table f n) i 0 ∙ getD-table f n (j + i) (omega arith))
-
-pub take-table : (f : ℕ → ℕ) (n j : ℕ) → j ≤ n → take j (table f n) ≡ table f j
-take-table f n j h =
-    is-table f j (take j (table f n))
-    (length-take-le j (table f n) (omega (arith, length-table f n)))
-    (λ i b. getD-take j (table f n) i 0 b ∙ getD-table f n i (omega arith))
+-- ---- the ends of a table
 
 pub last-table : (f : ℕ → ℕ) (n j : ℕ) → last j (table f n) ≡ table (λ i. f (n - j + i)) (n - (n - j))
 last-table f n j = ap (λ (z : ℕ). drop (z - j) (table f n)) (length-table f n) ∙ drop-table f n (n - j)
@@ -91,6 +56,41 @@ ring-append s c n m =
 pub ring-butLast : (s c n : ℕ) → butLast (ring s c n) ≡ ring s c (n - 1)
 unfolding ring
 ring-butLast s c n = butLast-table (λ i. (c + i) % (slices * s)) n
+
+-- one column more
+ring-last : (s c n : ℕ) → ring s c (n + 1) ≡ ring s c n ++ ((c + n) % (slices * s) ∷ [])
+unfolding ring table
+ring-last s c n =
+    let here : c + n + 0 ≡ c + n = omega arith in
+    sym (ring-append s c n 1) ∙ ap (λ (z : ℕ). ring s c n ++ (z % (slices * s) ∷ [])) here
+
+-- columns less than a lane apart are not the same
+differ : (q a d : ℕ) → 1 ≤ d → d < q → a % q ≢ (a + d) % q
+differ q a d some few e = go (mod-once (b + d) q (omega (arith, small)))
+  where
+    b : ℕ
+    b = a % q
+
+    small : b < q
+    small = mod-lt a (omega arith)
+
+    same : (b + d) % q ≡ b
+    same = mod-add-mod a q d ∙ sym e
+
+    go : (((b + d) % q ≡ b + d) × (b + d < q)) ⊎ (((b + d) % q + q ≡ b + d) × (q ≤ b + d)) → ⊥
+    go (inl m) = omega (arith, same)
+    go (inr m) = omega (arith, same)
+
+-- columns that do not go all round, without their last one
+pub ring-excluding : (s c n : ℕ) → n < slices * s → excluding ((c + n) % (slices * s)) (ring s c (n + 1)) ≡ ring s c n
+ring-excluding s c n h =
+    ap (λ (l : List ℕ). excluding ((c + n) % (slices * s)) l) (ring-last s c n)
+    ∙ excluding-last ((c + n) % (slices * s)) (ring s c n)
+    (λ i b e.
+    let i′ : i < n = omega (arith, length-ring s c n) in
+    let apart : c + i + (n - i) ≡ c + n = omega arith in
+    differ (slices * s) (c + i) (n - i) (omega arith) (omega arith)
+    (sym (getD-ring s c n i i′) ∙ e ∙ ap (λ (z : ℕ). z % (slices * s)) (sym apart)))
 
 -- the first column may be told going round
 pub ring-round : (s c c′ n : ℕ) → c % (slices * s) ≡ c′ % (slices * s) → ring s c n ≡ ring s c′ n

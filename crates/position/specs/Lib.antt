@@ -1,4 +1,3 @@
 pub mod Position
-pub mod Address
 pub mod Window
 pub mod Promises

@@ -31,19 +31,24 @@ unfoldable pub excluding : ℕ → List ℕ → List ℕ
 excluding x [] = []
 excluding x (y ∷ ys) = cond (eqb y x) (excluding x ys) (y ∷ excluding x ys)
 
--- "the blocks computed in the current segment in the current pass excluding B[i][j-1]"
+-- "the blocks computed in the current segment in the current pass"
 abbrev pub currentBlocks : ℕ → ℕ → ℕ → List ℕ
-currentBlocks s sl k = excluding (previousColumn s sl k) (table (λ i. column s sl i) k)
+currentBlocks s sl k = table (λ i. column s sl i) k
 
 -- all of a list but the very last
 abbrev pub butLast : List ℕ → List ℕ
 butLast xs = take (length xs - 1) xs
 
--- W of the current lane, or of another. "If B[i][j] is the first block of a segment, then the very last index from W is excluded"
+-- rule 1, W of the current lane: the finished segments "as well as" the current blocks, "excluding B[i][j-1]"
+abbrev pub ownW : ℕ → ℕ → ℕ → ℕ → List ℕ
+ownW s r sl k = excluding (previousColumn s sl k) (finishedBlocks s r sl ++ currentBlocks s sl k)
+
+-- rule 2, W of another lane: the finished segments. "If B[i][j] is the first block of a segment, then the very last index from W is excluded"
+abbrev pub otherW : ℕ → ℕ → ℕ → ℕ → List ℕ
+otherW s r sl k = cond (eqb k 0) (butLast (finishedBlocks s r sl)) (finishedBlocks s r sl)
+
 unfoldable pub W : ℕ → ℕ → ℕ → ℕ → Bool → List ℕ
-W s r sl k own =
-    let w = cond own (finishedBlocks s r sl ++ currentBlocks s sl k) (finishedBlocks s r sl) in
-    cond (eqb k 0) (butLast w) w
+W s r sl k own = cond own (ownW s r sl k) (otherW s r sl k)
 
 -- zz = |W| - 1 - y, where x = J_1^2 / 2^32 and y = (|W| * x) / 2^32
 unfoldable pub zz : ℕ → ℕ → ℕ

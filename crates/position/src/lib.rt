@@ -1,16 +1,14 @@
 // Where a block lies, and which block it refers to: document 01's reference position.
-ghost use mathlib.Core.Bool.{cond};
 ghost use mathlib.Core.Path.{_≡_};
 ghost use Prim.Native.Nat.{_+_, _-_, _*_, _%_, _≤_, _<_};
-ghost use Rattle.params.specs.Limits.{slices, maxMemory, segmentLength};
+ghost use Rattle.params.specs.Limits.{slices, maxMemory};
 ghost use Rattle.position.specs.Position as spec;
-ghost use Rattle.position.specs.Promises.{FirstBlockPromise, InMemoryPromise, ReferencePromise};
+ghost use Rattle.position.specs.Promises.{FirstBlockPromise, InMemoryPromise, ColumnPromise, PreviousColumnPromise, IndexPromise, ReferencePromise};
 use answer::Answer;
-use params::Configured;
 use params::Params;
-
-// The numbers of 32 bits: a word's high half is what it has of these, its low half what is left.
-const HALF: u64 = 0x1_0000_0000;
+use word::HALF;
+use word::high_half;
+use word::low_half;
 
 // A lane's number.
 pub struct LaneNumber(pub u32);
@@ -34,23 +32,6 @@ pub struct Reference {
     pub block: BlockNumber,
 }
 
-// a where t, else b.
-fn pick(t: bool, a: u64, b: u64) -> u64
-    ensures { λ r. ⌜ r ≡ cond t a b ⌝ }
-{
-    if t { a } else { b }
-}
-
-// The difference, or 0 where b is more.
-fn less(a: u64, b: u64) -> u64
-    ensures { λ r. ⌜ r ≡ a - b ⌝ }
-{
-    if a < b {
-        return 0;
-    }
-    a - b
-}
-
 // The first block of a segment that a step fills: 2 in pass 0, slice 0, else 0.
 pub fn first_block(pass: u32, slice: u32) -> u32
     ensures { λ b. ⌜ FirstBlockPromise pass slice b ⌝ }
@@ -58,19 +39,43 @@ pub fn first_block(pass: u32, slice: u32) -> u32
     if (pass == 0) & (slice == 0) { 2 } else { 0 }
 }
 
-// The segment length of these costs.
-fn segment_length(lanes: u32, memory: u32, passes: u32) -> u32
-    ensures { λ s. ⌜ s ≡ segmentLength memory lanes ⌝ }
+// Whether a lane with segments of this length has this block of this slice.
+fn in_lane(segment: u32, slice: u32, block: u32) -> bool
+    ensures { λ r. ⌜ r ≡ spec.inLane segment slice block ⌝ }
 {
-    let params = Params {
-        algorithm: Params::D,
-        version: Params::V0X13,
-        memory,
-        passes,
-        lanes,
-        configured: Configured::Absent,
-    };
-    params.segment_length()
+    (slice < Params::SYNC_POINTS) & (block < segment)
+}
+
+// The column of a block of a slice; 0 where a lane has no such block.
+pub fn column(params: Params, slice: u32, block: u32) -> BlockNumber
+    ensures { λ c. ⌜ ColumnPromise params slice block c ⌝ }
+{
+    let segment = params.segment_length();
+    if in_lane(segment, slice, block) {
+        return BlockNumber(slice * segment + block);
+    }
+    BlockNumber(0)
+}
+
+// The column of the block before; before a lane's first block, in a later pass, stands its last. 0 where a lane has no such block.
+pub fn previous_column(params: Params, slice: u32, block: u32) -> BlockNumber
+    ensures { λ c. ⌜ PreviousColumnPromise params slice block c ⌝ }
+{
+    if !in_lane(params.segment_length(), slice, block) {
+        return BlockNumber(0);
+    }
+    let at = column(params, slice, block).0;
+    if at == 0 {
+        return BlockNumber(params.lane_length() - 1);
+    }
+    BlockNumber(at - 1)
+}
+
+// The number in memory of a lane's block at a column.
+pub fn index(params: Params, lane: LaneNumber, column: BlockNumber) -> usize
+    ensures { λ n. ⌜ IndexPromise params lane column n ⌝ }
+{
+    column.in_memory(lane, params.lane_length())
 }
 
 // Whether pass, slice, lane and block are those of a block that a step fills.
@@ -101,55 +106,58 @@ fn reference_lane(lanes: u32, pass: u32, slice: u32, lane: LaneNumber, word: u64
     if (pass == 0) & (slice == 0) {
         return lane;
     }
-    LaneNumber((word / HALF % lanes as u64) as u32)
+    LaneNumber((high_half(word) % lanes as u64) as u32)
 }
 
-// The blocks of the finished segments: slice · s in pass 0, q - s later.
-fn finished(segment: u64, pass: u32, slice: u32) -> u64
+// How many blocks the finished segments have: slice · s in pass 0, q - s later.
+fn finished_length(segment: u64, pass: u32, slice: u32) -> u64
     requires { ⌜ (slices * segment ≤ maxMemory) × (slice < slices) ⌝ }
-    ensures { λ r. ⌜ r ≡ spec.finished segment pass slice ⌝ }
+    ensures { λ r. ⌜ r ≡ spec.finishedLength segment pass slice ⌝ }
 {
-    pick(
-        pass == 0,
-        slice as u64 * segment,
-        less(Params::SYNC_POINTS as u64 * segment, segment),
-    )
+    if pass == 0 {
+        return slice as u64 * segment;
+    }
+    Params::SYNC_POINTS as u64 * segment - segment
 }
 
 // The area: the finished segments, and the own lane's blocks of this one but the previous; in another lane less 1 for block 0.
 fn area(segment: u64, pass: u32, slice: u32, block: u64, own: bool) -> u64
-    requires { ⌜ (slices * segment ≤ maxMemory) × (slice < slices) × (block < segment) ⌝ }
+    requires { ⌜ (slices * segment ≤ maxMemory)
+        × (slice < slices)
+        × (block < segment)
+        × (1 ≤ spec.area segment pass slice block own) ⌝ }
     ensures { λ r. ⌜ r ≡ spec.area segment pass slice block own ⌝ }
 {
-    let whole = finished(segment, pass, slice);
-    pick(
-        own,
-        less(whole + block, 1),
-        less(whole, pick(block == 0, 1, 0)),
-    )
+    let finished = finished_length(segment, pass, slice);
+    if own {
+        return finished + block - 1;
+    }
+    if block == 0 {
+        return finished - 1;
+    }
+    finished
 }
 
 // The place in an area that the low half of the word gives.
 fn place(area: u64, word: u64) -> u64
-    requires { ⌜ area ≤ maxMemory ⌝ }
+    requires { ⌜ (1 ≤ area) × (area ≤ maxMemory) ⌝ }
     ensures { λ r. ⌜ r ≡ spec.place area word ⌝ }
 {
-    let low = word % HALF;
+    let low = low_half(word);
     let x = low * low / HALF;
-    less(less(area, 1), area * x / HALF)
+    area - 1 - area * x / HALF
 }
 
 // Where the area starts: behind this slice in later passes, where a slice follows; else at 0.
-fn start(segment: u64, pass: u32, slice: u32) -> u64
+fn area_start(segment: u64, pass: u32, slice: u32) -> u64
     requires { ⌜ (slices * segment ≤ maxMemory) × (slice < slices) ⌝ }
-    ensures { λ r. ⌜ r ≡ spec.start segment pass slice ⌝ }
+    ensures { λ r. ⌜ r ≡ spec.areaStart segment pass slice ⌝ }
 {
     let next = slice + 1;
-    pick(
-        (pass != 0) & (next < Params::SYNC_POINTS),
-        next as u64 * segment,
-        0,
-    )
+    if (pass != 0) & (next < Params::SYNC_POINTS) {
+        return next as u64 * segment;
+    }
+    0
 }
 
 // The column that the word refers to, in the own lane or in another.
@@ -161,10 +169,13 @@ fn reference_column(
     own: bool,
     word: u64,
 ) -> BlockNumber
-    requires { ⌜ (slices * segment ≤ maxMemory) × (slice < slices) × (block < segment) ⌝ }
-    ensures { λ r. ⌜ r .0 ≡ (spec.start segment pass slice + spec.place (spec.area segment pass slice block own) word) % (slices * segment) ⌝ }
+    requires { ⌜ (slices * segment ≤ maxMemory)
+        × (slice < slices)
+        × (block < segment)
+        × (1 ≤ spec.area segment pass slice block own) ⌝ }
+    ensures { λ r. ⌜ r .0 ≡ (spec.areaStart segment pass slice + spec.place (spec.area segment pass slice block own) word) % (slices * segment) ⌝ }
 {
-    let at = start(segment, pass, slice) + place(area(segment, pass, slice, block, own), word);
+    let at = area_start(segment, pass, slice) + place(area(segment, pass, slice, block, own), word);
     BlockNumber((at % (Params::SYNC_POINTS as u64 * segment)) as u32)
 }
 
@@ -197,7 +208,7 @@ pub fn reference_position(
     if costs.number() != 0 {
         return refused(costs);
     }
-    let segment = segment_length(lanes, memory, passes);
+    let segment = Params::segment_of(memory, lanes);
     if !fills(lanes, segment, passes, pass, slice, lane, block) {
         return refused(Answer::Inconsistent);
     }

@@ -5,13 +5,14 @@ use crate::write_number;
 use argon2::finish;
 use argon2::hash_password_into_with_memory;
 use argon2::start;
-use blake2b::State;
+use blake2b::Engine;
 use block::Block;
 use lent::digest;
 use libc::STDOUT_FILENO;
 use params::Configured;
 use params::Params;
 use turns::play;
+use word::low_half;
 use word::to_le32;
 
 // The words that are lent: more than any of these parameters need.
@@ -44,7 +45,7 @@ fn next(seed: u64) -> u64 {
 }
 
 fn narrow(x: u64) -> u32 {
-    (x % 0x1_0000_0000) as u32
+    low_half(x) as u32
 }
 
 // The remainder, or 0 by 0.
@@ -184,19 +185,19 @@ fn in_turns(params: Params, order: u64, words: &mut [u64], needed: usize) {
 }
 
 // A number as 4 bytes, and bytes after their count.
-fn feed_number(s: State, n: u32) -> State {
+fn feed_number(s: Engine, n: u32) -> Engine {
     let b = to_le32(n);
     s.feed(&b)
 }
 
-fn feed_counted(s: State, bytes: &[u8]) -> State {
+fn feed_counted(s: Engine, bytes: &[u8]) -> Engine {
     let s = feed_number(s, narrow(bytes.len() as u64));
     s.feed(bytes)
 }
 
 // The initial hash, as RFC 9106 lays out what it is taken of.
-fn initial_hash(params: Params) -> [u8; 64] {
-    let s = State::begin(State::MAX_OUTPUT);
+fn initial_hash(params: Params) -> [u8; Engine::MAX_OUTPUT] {
+    let s = Engine::begin(Engine::initial(Engine::MAX_OUTPUT));
     let s = feed_number(s, params.lanes);
     let s = feed_number(s, TAG as u32);
     let s = feed_number(s, params.memory);

@@ -13,15 +13,15 @@ use Rattle.answer.specs.Answers.{first}
 use Rattle.block.specs.Block.{blockWords}
 use Rattle.params.specs.Limits.{segment, blocks}
 use Rattle.params.specs.declared.Params.{Params}
-use Rattle.position.specs.Address.{addressed, randomWord}
+use Rattle.address.specs.Address.{addressed, randomWord}
 use Rattle.position.specs.Position.{reference}
-use Rattle.position.proofs.AddressFree.{Alike}
-use Rattle.position.proofs.AddressFree.{address-free as reference-address-free}
+use Rattle.address.proofs.AddressFree.{Alike}
+use Rattle.address.proofs.AddressFree.{address-free as reference-address-free}
 use Rattle.argon2.specs.Filling.{previousIndex}
 use Rattle.argon2.specs.Calls.{stepped}
-use Rattle.argon2.specs.Jobs.{position, complete, consistent, moved, settled, stepRows}
+use Rattle.job.specs.Jobs.{position, complete, consistent, moved, onward, stepRows}
 use Rattle.argon2.specs.Memory.{block}
-use Rattle.argon2.specs.declared.job.Job.{Job}
+use Rattle.job.specs.declared.Job.{Job}
 use Rattle.turns.specs.Play.{State, accepts, step, refers, filling, trace, addressedOnly, Filled}
 use Rattle.turns.proofs.Started.{answered, before, started-job, started-params, started-stands}
 use Rattle.turns.proofs.Steps.{step-params, step-length}
@@ -68,7 +68,7 @@ module _ (σ : State) (w : List ℕ) (l : ℕ) (left : blockWords * blocks (σ .
 
   same-job : step σ l .job ≡ step other l .job
   unfolding step stepped
-  same-job = ap (λ (n : ℕ). cond (eqb n 0) (settled (moved (σ .job) l)) (σ .job)) same
+  same-job = ap (λ (n : ℕ). cond (eqb n 0) (onward (moved (σ .job) l)) (σ .job)) same
 
   -- both fill the same, and where it is addressed refer to the same
   same-filling : (P : Params) → σ .job .params ≡ P → (fs gs : List Filled) → addressedOnly P fs ≡ addressedOnly P gs

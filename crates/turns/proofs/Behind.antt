@@ -13,9 +13,9 @@ use Rattle.params.specs.declared.Params.{Params}
 use Rattle.params.proofs.Within.{two}
 use Rattle.position.specs.Position.{firstBlock, column, index, previousColumn, referenceLane, referenceColumn}
 use Rattle.position.proofs.Referring.{ref-column, ref-own-zero, ref-other-zero}
-use Rattle.argon2.specs.Jobs.{position}
-use Rattle.argon2.specs.declared.job.Job.{Job}
-use Rattle.argon2.proofs.Jobs.{Bounds, inside-bounds, Ready}
+use Rattle.job.specs.Jobs.{position}
+use Rattle.job.specs.declared.Job.{Job}
+use Rattle.job.proofs.Jobs.{Bounds, inside-bounds, Ready}
 use Rattle.turns.specs.Play.{State, writes}
 use Rattle.turns.proofs.Rank.{rank}
 

@@ -15,12 +15,12 @@ use Rattle.params.specs.declared.Params.{Params}
 use Rattle.params.proofs.Within.{params-within}
 use Rattle.position.specs.Position.{firstBlock}
 use Rattle.argon2.specs.Filling.{fill, fillSegment, fillSlice, fillPass, fillAll}
-use Rattle.argon2.specs.Jobs.{any, position, unfinished, moved, settled, nextSlice, startJob}
+use Rattle.job.specs.Jobs.{any, position, unfinished, moved, onward, nextSlice, startJob}
 use Rattle.argon2.specs.Loop.{loop}
-use Rattle.argon2.specs.Rows.{outputRows}
-use Rattle.argon2.specs.declared.job.Job.{Job}
-use Rattle.argon2.proofs.Jobs.{Inside, Bounds, inside-bounds, unfinished-by, moved-same, moved-other, moved-stays, settled-unfinished, settled-finished, next-position, next-within, next-pass, first-later, step-stands}
-use Rattle.argon2.proofs.Tests.{any-of-false}
+use Rattle.checks.specs.Rows.{outputRows}
+use Rattle.job.specs.declared.Job.{Job}
+use Rattle.job.proofs.Jobs.{Inside, Bounds, inside-bounds, unfinished-by, moved-same, moved-other, moved-stays, onward-unfinished, onward-finished, next-position, next-within, next-pass, first-later, step-stands}
+use Rattle.job.proofs.Tests.{any-of-false}
 use Rattle.turns.specs.Play.{State, accepts, step, run}
 use Rattle.turns.proofs.Started.{Begin, begins-first, begins-second}
 use Rattle.turns.proofs.Steps.{filled, accepted-step, ReadyFor, ready-accepts, filled-length, StandsAt}
@@ -65,11 +65,11 @@ module _ (P : Params) (r sl l k : ℕ) (j : Job) (m : Amid P r sl l k j) (under 
       moved-other j l i n ∙ m .before i (omega arith)
 
   -- the lane goes on
-  goes-on : k + 1 < segment P → Amid P r sl l (k + 1) (settled (moved j l))
+  goes-on : k + 1 < segment P → Amid P r sl l (k + 1) (onward (moved j l))
   unfolding moved
   goes-on h =
       let u : position (moved j l) l < segment (j .params) = subst (λ (Q : Params). position (moved j l) l < segment Q) (sym (m .params)) (omega (arith, moved-here)) in
-      subst (λ (i : Job). Amid P r sl l (k + 1) i) (sym (settled-unfinished (moved j l) (unfinished-by (moved j l) l lane′ u)))
+      subst (λ (i : Job). Amid P r sl l (k + 1) i) (sym (onward-unfinished (moved j l) (unfinished-by (moved j l) l lane′ u)))
       (record {
         inside = moved-stays j l (m .inside) lane′ under′ l lane′ u;
         params = m .params;
@@ -82,13 +82,13 @@ module _ (P : Params) (r sl l k : ℕ) (j : Job) (m : Amid P r sl l k j) (under 
       })
 
   -- the lane is done, and the next begins
-  hands-on : k + 1 ≡ segment P → l + 1 < P .lanes → firstBlock r sl < segment P → Amid P r sl (l + 1) (firstBlock r sl) (settled (moved j l))
+  hands-on : k + 1 ≡ segment P → l + 1 < P .lanes → firstBlock r sl < segment P → Amid P r sl (l + 1) (firstBlock r sl) (onward (moved j l))
   unfolding moved
   hands-on e h f =
       let n : position (moved j l) (l + 1) ≡ firstBlock r sl = moved-other j l (l + 1) (λ q. omega arith) ∙ m .behind (l + 1) (omega arith) h in
       let lane″ : l + 1 < j .params .lanes = subst (λ (Q : Params). l + 1 < Q .lanes) (sym (m .params)) h in
       let u : position (moved j l) (l + 1) < segment (j .params) = subst (λ (Q : Params). position (moved j l) (l + 1) < segment Q) (sym (m .params)) (omega (arith, n)) in
-      subst (λ (i : Job). Amid P r sl (l + 1) (firstBlock r sl) i) (sym (settled-unfinished (moved j l) (unfinished-by (moved j l) (l + 1) lane″ u)))
+      subst (λ (i : Job). Amid P r sl (l + 1) (firstBlock r sl) i) (sym (onward-unfinished (moved j l) (unfinished-by (moved j l) (l + 1) lane″ u)))
       (record {
         inside = moved-stays j l (m .inside) lane′ under′ (l + 1) lane″ u;
         params = m .params;
@@ -101,7 +101,7 @@ module _ (P : Params) (r sl l k : ℕ) (j : Job) (m : Amid P r sl l k j) (under 
       })
 
   -- the last lane is done, and the next slice begins
-  ends : k + 1 ≡ segment P → l + 1 ≡ P .lanes → Follows P r sl (settled (moved j l))
+  ends : k + 1 ≡ segment P → l + 1 ≡ P .lanes → Follows P r sl (onward (moved j l))
   unfolding moved nextSlice
   ends e h = (λ t. subst (λ (i : Job). Begin P r (sl + 1) i) (sym is) (within t), λ t. subst (λ (i : Job). Begin P (r + 1) 0 i) (sym is) (over t))
     where
@@ -111,8 +111,8 @@ module _ (P : Params) (r sl l k : ℕ) (j : Job) (m : Amid P r sl l k j) (under 
           (any-of-false (P .lanes) (λ i. ltb (position (moved j l) i) (segment P))
           (λ i b. le-ltb (position (moved j l) i) (segment P) (omega (arith, done e i (omega arith) (eqb i l) refl))))
 
-      is : settled (moved j l) ≡ nextSlice (moved j l)
-      is = settled-finished (moved j l) fin
+      is : onward (moved j l) ≡ nextSlice (moved j l)
+      is = onward-finished (moved j l) fin
 
       st : StandsAt (nextSlice (moved j l))
       st = subst (λ (i : Job). StandsAt i) is (step-stands j l (m .inside) lane′ under′)

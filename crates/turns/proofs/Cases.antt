@@ -1,25 +1,26 @@
 -- The cases of document 01 that are marked P, one record, one statement. Each row is about a definition that the promises name; P4 to P8 and
--- the sizes of P1 to P3 stand in the rows of `PositionCases`. Assumes nothing.
+-- the sizes of P1 to P3 stand in the rows of `PositionCases`, P10 in those of `AddressCases`. Assumes nothing.
 use mathlib.Core.Path.{_≡_, refl, ap, _∙_}
 use mathlib.Core.Logic.{_↔_}
 use mathlib.Core.Bool.{true}
 use mathlib.Core.List.{List, [], _∷_, _++_}
 use Prim.Native.Nat.{ℕ, _+_, _*_}
 use native.Mathlib.Omega.{arith}
-use lib.ListN.{getD, take, drop, replicate}
+use lib.ListN.{take, drop, replicate}
 use Rattle.blake2b_long.specs.Long.{pieces}
 use Rattle.blake2b_long.proofs.Pieces.{direct, just-over, ninety-six, ninety-seven, a-block}
 use Rattle.block.specs.Block.{blockWords}
 use Rattle.params.specs.Limits.{d, i, id, v13, segmentLength, blocks}
 use Rattle.params.specs.declared.Configured.the-variants.{Absent}
 use Rattle.params.specs.declared.Params.{Params}
-use Rattle.position.specs.Address.{addressBlock, addressedWord}
 use Rattle.position.proofs.Cases.{PositionCases}
 use Rattle.position.proofs.Cases.{cases as position-cases}
+use Rattle.address.proofs.Cases.{AddressCases}
+use Rattle.address.proofs.Cases.{cases as address-cases}
 use Rattle.argon2.specs.Calls.{started}
-use Rattle.argon2.specs.Initial.{hashInput}
-use Rattle.argon2.specs.Jobs.{complete}
-use Rattle.argon2.proofs.MemoryCost.{memory-hashed}
+use Rattle.initial.specs.Initial.{hashInput}
+use Rattle.job.specs.Jobs.{complete}
+use Rattle.initial.proofs.MemoryCost.{memory-hashed}
 use Rattle.turns.specs.Play.{run, acceptedSteps}
 use Rattle.turns.proofs.Completion.{count}
 use Rattle.turns.proofs.Started.{answered, before}
@@ -41,7 +42,7 @@ Needs P n =
     → (complete (run (before P tag password salt secret ad w) ls .job) ≡ true) ↔ (acceptedSteps (before P tag password salt secret ad w) ls ≡ n)
 
 pub record Cases : Type 0 where
-  -- P1 s=2, m'=8; P3 m'=32; P4 to P8; P10, the counter and the place
+  -- P1 s=2, m'=8; P3 m'=32; P4 to P8
   pub positions : PositionCases
   -- P1 m=8, p=1, t=1 needs 6 steps
   pub p1-starts : Starts (with-costs d 8 1 1) × Starts (with-costs i 8 1 1) × Starts (with-costs id 8 1 1)
@@ -59,9 +60,7 @@ pub record Cases : Type 0 where
       × (pieces 97 ≡ 32 ∷ 32 ∷ 33 ∷ [])
       × (pieces 1024 ≡ replicate 30 32 ++ (64 ∷ []))
   -- P10 block 127 uses counter 1, word 127; block 128 counter 2, word 0
-  pub p10-words : (P : Params) (r sl l : ℕ)
-      → (addressedWord P r sl l 127 ≡ getD (addressBlock P r sl l 1) 127 0)
-      × (addressedWord P r sl l 128 ≡ getD (addressBlock P r sl l 2) 0 0)
+  pub addresses : AddressCases
 
 -- `count`, where the blocks of all passes, less two for each lane, are n
 needs : (P : Params) (n : ℕ) → n + 2 * P .lanes ≡ P .passes * blocks P → Needs P n
@@ -72,7 +71,7 @@ needs P n e tag password salt secret ad w ok ls =
     (λ c. omega (arith, both .0 c), λ q. both .1 (ap (λ (m : ℕ). m + 2 * P .lanes) q ∙ e))
 
 pub cases : Cases
-unfolding started segmentLength addressedWord
+unfolding started segmentLength
 cases =
     record {
       positions = position-cases;
@@ -82,5 +81,5 @@ cases =
       p2-steps = λ algorithm. needs (with-costs algorithm 32 4 3) 88 refl;
       p3-hashed = λ algorithm t tag password salt secret ad. memory-hashed (with-costs algorithm 47 4 t) tag password salt secret ad;
       p9-pieces = (direct, just-over, ninety-six, ninety-seven, a-block);
-      p10-words = λ P r sl l. (refl, refl);
+      addresses = address-cases;
     }

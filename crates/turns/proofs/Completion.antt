@@ -13,9 +13,9 @@ use Rattle.block.specs.Block.{blockWords}
 use Rattle.params.specs.Limits.{segment, laneLength, blocks}
 use Rattle.params.specs.declared.Params.{Params}
 use Rattle.argon2.specs.Calls.{stepped, finished}
-use Rattle.argon2.specs.Jobs.{position, complete, consistent}
-use Rattle.argon2.specs.declared.job.Job.{Job}
-use Rattle.argon2.proofs.Jobs.{Inside, Complete}
+use Rattle.job.specs.Jobs.{position, complete, consistent}
+use Rattle.job.specs.declared.Job.{Job}
+use Rattle.job.proofs.Jobs.{Inside, Complete}
 use Rattle.turns.specs.Play.{State, accepts, run, accepted, acceptedSteps}
 use Rattle.turns.proofs.Order.{any-order}
 use Rattle.turns.proofs.Rank.{rank, rank-run, idle-run, sum-run, rank-complete, rank-inside}

@@ -18,13 +18,15 @@ use Rattle.params.proofs.Within.{params-within, two}
 use Rattle.position.specs.Position.{column, index, previousColumn, referenceLane, referenceColumn}
 use Rattle.position.proofs.Referring.{ref-lane, ref-column}
 use Rattle.argon2.specs.Filling.{storedBlock}
-use Rattle.argon2.specs.Initial.{initialHash, startMemory}
-use Rattle.argon2.specs.Jobs.{position, complete, startJob}
+use Rattle.initial.specs.Initial.{initialHash}
+use Rattle.argon2.specs.Start.{startMemory}
+use Rattle.job.specs.Jobs.{position, complete, startJob}
 use Rattle.argon2.specs.Memory.{block}
-use Rattle.argon2.specs.Rows.{outputRows}
-use Rattle.argon2.specs.declared.job.Job.{Job}
-use Rattle.argon2.proofs.Filling.{column-lt, previous-lt, fill-block}
-use Rattle.argon2.proofs.Jobs.{Bounds, inside-bounds, Ready}
+use Rattle.checks.specs.Rows.{outputRows}
+use Rattle.job.specs.declared.Job.{Job}
+use Rattle.argon2.proofs.Filling.{fill-block}
+use Rattle.position.proofs.Columns.{column-lt, previous-lt}
+use Rattle.job.proofs.Jobs.{Bounds, inside-bounds, Ready}
 use Rattle.argon2.proofs.StartMemory.{start-length, start-block}
 use Rattle.argon2.proofs.StartWrites.{Accepted, accepted-start}
 use Rattle.argon2.proofs.Stored.{same-stored, fill-other}
@@ -69,9 +71,9 @@ module _
         ≡ storedBlock (σ .job .params) (σ .job .pass) (σ .job .slice) l (position (σ .job) l) w
     unfolding P r sl k
     stored =
-        let here : column (segment P) sl k < laneLength P = column-lt (segment P) sl k (two z) (h .inside .within) (h .under) in
+        let here : column (segment P) sl k < laneLength P = column-lt (segment P) sl k (h .inside .within) (h .under) in
         same-stored P r sl l k (σ .memory) w
-        (agree l (previousColumn (segment P) sl k) (h .lane) (previous-lt (segment P) sl k (two z) (h .inside .within) (h .under))
+        (agree l (previousColumn (segment P) sl k) (h .lane) (previous-lt (segment P) sl k (h .inside .within) (h .under))
         (previous-behind (σ .job) (length (σ .memory)) l h))
         (λ x.
         agree (referenceLane (P .lanes) r sl l x) (referenceColumn (P .lanes) (segment P) r sl l k x)

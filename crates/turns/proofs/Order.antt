@@ -8,10 +8,10 @@ use Prim.Native.Nat.{ℕ}
 use native.Mathlib.Omega.{arith}
 use Rattle.params.proofs.Within.{two}
 use Rattle.argon2.specs.Filling.{fill}
-use Rattle.argon2.specs.Jobs.{position, moved, settled}
-use Rattle.argon2.specs.declared.job.Job.{Job}
+use Rattle.job.specs.Jobs.{position, moved, onward}
+use Rattle.job.specs.declared.Job.{Job}
 use Rattle.argon2.proofs.Commute.{fill-comm}
-use Rattle.argon2.proofs.Jobs.{Bounds, inside-bounds, unfinished-by, moved-other, moved-stays, moved-comm, settled-unfinished}
+use Rattle.job.proofs.Jobs.{Bounds, inside-bounds, unfinished-by, moved-other, moved-stays, moved-comm, onward-unfinished}
 use Rattle.turns.specs.Play.{State, accepts, step, run, accepted}
 use Rattle.turns.proofs.Confluence.{order-free}
 use Rattle.turns.proofs.Steps.{filled, accepted-step, refused-step, ReadyFor, accepted-ready, ready-accepts, filled-length}
@@ -28,7 +28,7 @@ module _ (σ : State) (a b : ℕ) (n : a ≢ b) (ra : ReadyFor σ a) (rb : Ready
   unfolding moved
   filled-one =
       ap {B = State} (λ (j : Job). record { job = j; memory = filled σ a .memory })
-      (settled-unfinished (moved (σ .job) a) (unfinished-by (moved (σ .job) a) b (rb .lane) (omega (arith, rb .under, still))))
+      (onward-unfinished (moved (σ .job) a) (unfinished-by (moved (σ .job) a) b (rb .lane) (omega (arith, rb .under, still))))
 
   ready-one : ReadyFor one b
   unfolding moved
@@ -43,7 +43,7 @@ module _ (σ : State) (a b : ℕ) (n : a ≢ b) (ra : ReadyFor σ a) (rb : Ready
   -- after both
   filled-two : filled (filled σ a) b
       ≡ record {
-        job = settled (moved (moved (σ .job) a) b);
+        job = onward (moved (moved (σ .job) a) b);
         memory = fill (σ .job .params) (σ .job .pass) (σ .job .slice) b (position (σ .job) b) (filled σ a .memory);
       }
   unfolding moved
@@ -52,7 +52,7 @@ module _ (σ : State) (a b : ℕ) (n : a ≢ b) (ra : ReadyFor σ a) (rb : Ready
       ∙ ap {B = State}
       (λ (k : ℕ).
       record {
-        job = settled (moved (moved (σ .job) a) b);
+        job = onward (moved (moved (σ .job) a) b);
         memory = fill (σ .job .params) (σ .job .pass) (σ .job .slice) b k (filled σ a .memory);
       })
       still
@@ -81,7 +81,7 @@ diamond σ a b n p q =
       subst (λ (τ : State). accepts τ b ≡ true) (sym (accepted-step σ a p)) (still-accepts σ a b n ra rb),
       step-two σ a b n p q
           ∙ filled-two σ a b n ra rb
-          ∙ (λ i. record { job = settled (moved-comm (σ .job) a b n i); memory = m i })
+          ∙ (λ i. record { job = onward (moved-comm (σ .job) a b n i); memory = m i })
           ∙ sym (filled-two σ b a n′ rb ra)
           ∙ sym (step-two σ b a n′ q p),
     )

@@ -9,10 +9,10 @@ use lib.Dec.{eqb, ltb}
 use borrow.Author.Tests.{eqb-true, eqb-false, ne-eqb, ltb-false}
 use Rattle.params.specs.Limits.{slices, segment, laneLength}
 use Rattle.params.specs.declared.Params.{Params}
-use Rattle.argon2.specs.Jobs.{position, unfinished, moved, settled, nextSlice}
-use Rattle.argon2.specs.declared.job.Job.{Job}
-use Rattle.argon2.proofs.Jobs.{Inside, Complete, Bounds, inside-bounds, moved-same, moved-other, settled-unfinished, settled-finished, next-position, next-within, next-pass}
-use Rattle.argon2.proofs.Tests.{any-false}
+use Rattle.job.specs.Jobs.{position, unfinished, moved, onward, nextSlice}
+use Rattle.job.specs.declared.Job.{Job}
+use Rattle.job.proofs.Jobs.{Inside, Complete, Bounds, inside-bounds, moved-same, moved-other, onward-unfinished, onward-finished, next-position, next-within, next-pass}
+use Rattle.job.proofs.Tests.{any-false}
 use Rattle.turns.specs.Play.{State, accepts, step, run, accepted, acceptedSteps}
 use Rattle.turns.proofs.Steps.{filled, accepted-step, refused-step, ReadyFor, accepted-ready, step-params}
 use Rattle.turns.proofs.Sums.{sum, sum-plus, sum-const, sum-point}
@@ -34,10 +34,10 @@ moved-high j a l h la ua k = go (eqb l a) refl
         (omega (arith, moved-same j a (h .places) (omega (arith, z .few-lanes))))
     go false t = omega (arith, h .high l k, moved-other j a l (eqb-false l a t))
 
--- a job that settles has as many blocks behind it
-pub rank-settled : (j : Job) (l : ℕ) → j .slice < slices → l < j .params .lanes → position j l ≤ segment (j .params) → rank (settled j) l ≡ rank j l
+-- a job that moves on to the next slice has as many blocks behind it
+pub rank-onward : (j : Job) (l : ℕ) → j .slice < slices → l < j .params .lanes → position j l ≤ segment (j .params) → rank (onward j) l ≡ rank j l
 unfolding rank nextSlice
-rank-settled j l four k high = go (unfinished j) refl
+rank-onward j l four k high = go (unfinished j) refl
   where
     next : unfinished j ≡ false → (t : Bool) → ltb (j .slice + 1) slices ≡ t → rank (nextSlice j) l ≡ rank j l
     next u true t =
@@ -55,9 +55,9 @@ rank-settled j l four k high = go (unfinished j) refl
         let o : (j .slice + 1) * segment (j .params) ≡ slices * segment (j .params) = ap (λ (v : ℕ). v * segment (j .params)) last in
         omega (arith, ltb-false (position j l) (segment (j .params)) at, next-position j l)
 
-    go : (t : Bool) → unfinished j ≡ t → rank (settled j) l ≡ rank j l
-    go true u = ap (λ (i : Job). rank i l) (settled-unfinished j u)
-    go false u = ap (λ (i : Job). rank i l) (settled-finished j u) ∙ next u (ltb (j .slice + 1) slices) refl
+    go : (t : Bool) → unfinished j ≡ t → rank (onward j) l ≡ rank j l
+    go true u = ap (λ (i : Job). rank i l) (onward-unfinished j u)
+    go false u = ap (λ (i : Job). rank i l) (onward-finished j u) ∙ next u (ltb (j .slice + 1) slices) refl
 
 rank-moved : (j : Job) (a l : ℕ) → Inside j → a < j .params .lanes → rank (moved j a) l ≡ cond (eqb a l) 1 0 + rank j l
 unfolding rank moved
@@ -76,7 +76,7 @@ rank-moved j a l h la = go (eqb a l) refl
 pub rank-filled : (σ : State) (a l : ℕ) → ReadyFor σ a → l < σ .job .params .lanes → rank (filled σ a .job) l ≡ cond (eqb a l) 1 0 + rank (σ .job) l
 unfolding moved
 rank-filled σ a l h k =
-    rank-settled (moved (σ .job) a) l (h .inside .within) k (moved-high (σ .job) a l (h .inside) (h .lane) (h .under) k)
+    rank-onward (moved (σ .job) a) l (h .inside .within) k (moved-high (σ .job) a l (h .inside) (h .lane) (h .under) k)
     ∙ rank-moved (σ .job) a l (h .inside) (h .lane)
 
 -- an accepted step of a lane adds one to it, and nothing to any other

@@ -15,11 +15,11 @@ use Rattle.params.proofs.Within.{two}
 use Rattle.position.specs.Position.{column, index, previousColumn, referenceLane, referenceColumn}
 use Rattle.position.proofs.Referring.{ref-lane, ref-column, ref-not-current, ref-not-previous, ref-not-beside, same-lane}
 use Rattle.argon2.specs.Filling.{previousIndex, wordFor}
-use Rattle.argon2.specs.Jobs.{position}
-use Rattle.argon2.specs.declared.job.Job.{Job}
-use Rattle.argon2.proofs.Filling.{previous-lt}
-use Rattle.argon2.proofs.Jobs.{Bounds, inside-bounds}
-use Rattle.argon2.proofs.Tests.{or-left, or-right, or-second}
+use Rattle.job.specs.Jobs.{position}
+use Rattle.job.specs.declared.Job.{Job}
+use Rattle.position.proofs.Columns.{previous-lt}
+use Rattle.job.proofs.Jobs.{Bounds, inside-bounds}
+use Rattle.job.proofs.Tests.{or-left, or-right, or-second}
 use Rattle.turns.specs.Play.{State, accepts, step, run, writes, refers, startWrites, written}
 use Rattle.turns.specs.Turns.{noted}
 use Rattle.turns.proofs.Behind.{next-is-written, reference-behind}
@@ -158,7 +158,7 @@ module _ (τ : State) (l : ℕ) (h : ReadyFor τ l) where
       ref-column (P .lanes) (segment P) (z .some-lanes) (two z) r sl l k x (h .inside .within) (h .lane) (h .under) (h .inside .low l (h .lane)) in
       let own : referenceLane (P .lanes) r sl l x ≡ l =
       same-lane (segment P) (referenceLane (P .lanes) r sl l x) l (referenceColumn (P .lanes) (segment P) r sl l k x) (previousColumn (segment P) sl k)
-      c (previous-lt (segment P) sl k (two z) (h .inside .within) (h .under)) q in
+      c (previous-lt (segment P) sl k (h .inside .within) (h .under)) q in
       ref-not-previous (P .lanes) (segment P) (z .some-lanes) (two z) r sl l k x (h .inside .within) (h .lane) (h .under) (h .inside .low l (h .lane)) own
       (omega (arith, q, ap (λ (a : ℕ). a * laneLength P) own))
 

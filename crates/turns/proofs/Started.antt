@@ -16,18 +16,19 @@ use Rattle.params.specs.declared.Params.{Params}
 use Rattle.params.proofs.Within.{params-within, two}
 use Rattle.position.specs.Position.{firstBlock, index}
 use Rattle.argon2.specs.Calls.{started}
-use Rattle.argon2.specs.Initial.{initialHash, firstWords, startMemory}
-use Rattle.argon2.specs.Jobs.{position, settled, nextSlice, startJob, zeroJob}
+use Rattle.initial.specs.Initial.{initialHash, firstWords}
+use Rattle.argon2.specs.Start.{startMemory}
+use Rattle.job.specs.Jobs.{position, onward, nextSlice, startJob, zeroJob}
 use Rattle.argon2.specs.Memory.{block}
-use Rattle.argon2.specs.Rows.{outputRows}
-use Rattle.argon2.specs.declared.job.Job.{Job}
-use Rattle.argon2.proofs.Jobs.{Bounds, unfinished-by, settled-unfinished, settled-finished, zeros-at, next-position, next-stands}
+use Rattle.checks.specs.Rows.{outputRows}
+use Rattle.job.specs.declared.Job.{Job}
+use Rattle.job.proofs.Jobs.{Bounds, unfinished-by, onward-unfinished, onward-finished, zeros-at, next-position, next-stands}
 use Rattle.argon2.proofs.StartMemory.{start-length, start-block}
 use Rattle.argon2.proofs.StartWrites.{Accepted, accepted-start, start-others}
-use Rattle.argon2.proofs.Tests.{any-of-false}
+use Rattle.job.proofs.Tests.{any-of-false}
 use Rattle.turns.specs.Play.{State, begun, startWrites}
-use Rattle.turns.proofs.Rank.{rank, rank-settled}
-use Rattle.turns.proofs.Steps.{settled-params, StandsAt, Stands}
+use Rattle.turns.proofs.Rank.{rank, rank-onward}
+use Rattle.turns.proofs.Steps.{onward-params, StandsAt, Stands}
 
 -- ---- the job that a start hands back
 
@@ -77,7 +78,7 @@ module _ (P : Params) (tag : ℕ) (numbers : first (rows P) ≡ 0) (allowed : fi
   unfolding startJob first-job j
   begins-first t =
       let u : firstBlock 0 0 < segment P = ltb-true (firstBlock 0 0) (segment P) t in
-      subst (λ (i : Job). Begin P 0 0 i) (sym (settled-unfinished j (unfinished-by j 0 (z .some-lanes) (omega (arith, at-first 0 (z .some-lanes))))))
+      subst (λ (i : Job). Begin P 0 0 i) (sym (onward-unfinished j (unfinished-by j 0 (z .some-lanes) (omega (arith, at-first 0 (z .some-lanes))))))
       (record {
         stands =
             inl
@@ -105,8 +106,8 @@ module _ (P : Params) (tag : ℕ) (numbers : first (rows P) ≡ 0) (allowed : fi
   unfolding startJob first-job j nextSlice
   begins-second t =
       let u : segment P ≤ firstBlock 0 0 = ltb-false (firstBlock 0 0) (segment P) t in
-      let e : settled j ≡ nextSlice j =
-      settled-finished j (any-of-false (P .lanes) (λ i. ltb (position j i) (segment P)) (λ i k. le-ltb (position j i) (segment P) (omega (arith, at-first i k)))) in
+      let e : onward j ≡ nextSlice j =
+      onward-finished j (any-of-false (P .lanes) (λ i. ltb (position j i) (segment P)) (λ i k. le-ltb (position j i) (segment P) (omega (arith, at-first i k)))) in
       subst (λ (i : Job). Begin P 0 1 i) (sym e)
       (record {
         stands = next-stands j numbers allowed (z .some-passes) (omega arith);
@@ -126,12 +127,12 @@ module _ (P : Params) (tag : ℕ) (numbers : first (rows P) ≡ 0) (allowed : fi
 
   pub start-params : startJob P tag .params ≡ P
   unfolding startJob
-  start-params = settled-params _
+  start-params = onward-params _
 
   pub start-rank : (l : ℕ) → l < P .lanes → rank (startJob P tag) l ≡ 2
   unfolding startJob first-job j rank
   start-rank l h =
-      rank-settled j l (omega arith) h (omega (arith, at-first l h, two z)) ∙ omega (arith, at-first l h)
+      rank-onward j l (omega arith) h (omega (arith, at-first l h, two z)) ∙ omega (arith, at-first l h)
 
 -- ---- the blocks that start writes
 

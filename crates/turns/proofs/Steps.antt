@@ -15,11 +15,11 @@ use Rattle.params.specs.declared.Params.{Params}
 use Rattle.params.proofs.Within.{two}
 use Rattle.argon2.specs.Calls.{stepped}
 use Rattle.argon2.specs.Filling.{fill, storedBlock}
-use Rattle.argon2.specs.Jobs.{position, complete, consistent, unfinished, moved, settled, nextSlice, stepRows}
+use Rattle.job.specs.Jobs.{position, complete, consistent, unfinished, moved, onward, nextSlice, stepRows}
 use Rattle.argon2.specs.Memory.{block}
-use Rattle.argon2.specs.declared.job.Job.{Job}
+use Rattle.job.specs.declared.Job.{Job}
 use Rattle.argon2.proofs.Filling.{fill-length, fill-block, fill-outside}
-use Rattle.argon2.proofs.Jobs.{Inside, Complete, inside-bounds, stands-inside, stands-complete, inside-consistent, complete-consistent, Ready, ready, ready-accepted, step-stands}
+use Rattle.job.proofs.Jobs.{Inside, Complete, inside-bounds, stands-inside, stands-complete, inside-consistent, complete-consistent, Ready, ready, ready-accepted, step-stands}
 use Rattle.turns.specs.Play.{State, accepts, step, run, writes}
 
 -- ---- accepted, and refused
@@ -28,7 +28,7 @@ use Rattle.turns.specs.Play.{State, accepts, step, run, writes}
 abbrev pub filled : State → ℕ → State
 filled σ l =
     record {
-      job = settled (moved (σ .job) l);
+      job = onward (moved (σ .job) l);
       memory = fill (σ .job .params) (σ .job .pass) (σ .job .slice) l (position (σ .job) l) (σ .memory);
     }
 
@@ -68,9 +68,9 @@ ready-accepts σ l h =
 
 -- ---- the parameters and the memory's length stay
 
-pub settled-params : (j : Job) → settled j .params ≡ j .params
-unfolding settled nextSlice
-settled-params j = go (unfinished j)
+pub onward-params : (j : Job) → onward j .params ≡ j .params
+unfolding onward nextSlice
+onward-params j = go (unfinished j)
   where
     go : (t : Bool) → cond t j (nextSlice j) .params ≡ j .params
     go true = refl
@@ -79,7 +79,7 @@ settled-params j = go (unfinished j)
 pub step-params : (σ : State) (l : ℕ) → step σ l .job .params ≡ σ .job .params
 unfolding moved
 step-params σ l =
-    after-step (λ τ. τ .job .params ≡ σ .job .params) σ l (λ e. settled-params (moved (σ .job) l)) (λ e. refl)
+    after-step (λ τ. τ .job .params ≡ σ .job .params) σ l (λ e. onward-params (moved (σ .job) l)) (λ e. refl)
 
 pub run-params : (σ : State) (ls : List ℕ) → run σ ls .job .params ≡ σ .job .params
 run-params σ [] = refl
@@ -150,7 +150,7 @@ step-consistent σ l c =
     after-step (λ τ. consistent (τ .job) ≡ true) σ l
     (λ e.
     let h : ReadyFor σ l = accepted-ready σ l e in
-    stands-consistent (settled (moved (σ .job) l)) (step-stands (σ .job) l (h .inside) (h .lane) (h .under)))
+    stands-consistent (onward (moved (σ .job) l)) (step-stands (σ .job) l (h .inside) (h .lane) (h .under)))
     (λ e. c)
 
 pub run-consistent : (σ : State) (ls : List ℕ) → consistent (σ .job) ≡ true → consistent (run σ ls .job) ≡ true

@@ -9,7 +9,7 @@ use native.Mathlib.Omega.{arith}
 use lib.ListN.{length, replicate, length-replicate}
 use borrow.Author.Tests.{eq-eqb, ne-eqb}
 use Rattle.answer.specs.Answers.{first, ifAccepted}
-use Rattle.blake2b.specs.Blake2b.{bytes}
+use Rattle.word.specs.Word.{bytes}
 use Rattle.blake2b_long.specs.Long.{long}
 use Rattle.block.specs.Block.{blockWords, xors}
 use Rattle.params.specs.Limits.{rows, slices, segment, blocks}
@@ -20,12 +20,12 @@ use Rattle.position.proofs.Referring.{index-lt}
 use Rattle.argon2.specs.Argon2.{lastBlocks, tagOf, filled, argon2}
 use Rattle.argon2.specs.Calls.{Result, started, finished, hashed}
 use Rattle.argon2.specs.Filling.{fillAll}
-use Rattle.argon2.specs.Initial.{initialHash}
-use Rattle.argon2.specs.Jobs.{complete, unfinished, moved, settled, nextSlice, startJob}
+use Rattle.initial.specs.Initial.{initialHash}
+use Rattle.job.specs.Jobs.{complete, unfinished, moved, onward, nextSlice, startJob}
 use Rattle.argon2.specs.Memory.{block}
-use Rattle.argon2.specs.Rows.{outputRows}
-use Rattle.argon2.specs.declared.job.Job.{Job}
-use Rattle.argon2.proofs.Jobs.{Finishing, finishing-accepted}
+use Rattle.checks.specs.Rows.{outputRows}
+use Rattle.job.specs.declared.Job.{Job}
+use Rattle.job.proofs.Jobs.{Finishing, finishing-accepted}
 use Rattle.argon2.proofs.StartMemory.{start-length}
 use Rattle.argon2.proofs.StartWrites.{Accepted, accepted-start}
 use Rattle.turns.specs.Play.{State, step, run}
@@ -50,9 +50,9 @@ same-tag P n v w o h = ap (λ (b : List ℕ). long n (bytes b)) (same-last (P .l
 
 -- ---- the tag length stays
 
-settled-tag : (j : Job) → settled j .tag ≡ j .tag
-unfolding settled nextSlice
-settled-tag j = go (unfinished j)
+onward-tag : (j : Job) → onward j .tag ≡ j .tag
+unfolding onward nextSlice
+onward-tag j = go (unfinished j)
   where
     go : (t : Bool) → cond t j (nextSlice j) .tag ≡ j .tag
     go true = refl
@@ -62,11 +62,11 @@ run-tag : (σ : State) (ls : List ℕ) → run σ ls .job .tag ≡ σ .job .tag
 unfolding moved
 run-tag σ [] = refl
 run-tag σ (l ∷ ls) =
-    run-tag (step σ l) ls ∙ after-step (λ τ. τ .job .tag ≡ σ .job .tag) σ l (λ e. settled-tag (moved (σ .job) l)) (λ e. refl)
+    run-tag (step σ l) ls ∙ after-step (λ τ. τ .job .tag ≡ σ .job .tag) σ l (λ e. onward-tag (moved (σ .job) l)) (λ e. refl)
 
 start-tag : (P : Params) (tag : ℕ) → startJob P tag .tag ≡ tag
 unfolding startJob
-start-tag P tag = settled-tag _
+start-tag P tag = onward-tag _
 
 -- ---- a completed run
 

@@ -6,12 +6,12 @@ use mathlib.Core.List.{List, [], _∷_, _++_}
 use lib.Dec.{eqb}
 use Rattle.params.specs.Limits.{segment}
 use Rattle.params.specs.declared.Params.{Params}
-use Rattle.position.specs.Address.{addressed}
+use Rattle.address.specs.Address.{addressed}
 use Rattle.position.specs.Position.{index}
 use Rattle.argon2.specs.Calls.{started, stepped}
 use Rattle.argon2.specs.Filling.{currentIndex, referenceIndex}
-use Rattle.argon2.specs.Jobs.{position}
-use Rattle.argon2.specs.declared.job.Job.{Job}
+use Rattle.job.specs.Jobs.{position}
+use Rattle.job.specs.declared.Job.{Job}
 use Rattle.turns.specs.Turns.{turns, acceptedOf, acceptedAll, noted}
 
 -- a job and the memory lent

@@ -1,17 +1,20 @@
--- `argon2::fill_memory` meets its contract: refused, the words stay; accepted, the rows say that the memory has the blocks and that the counts
--- fit. Assumes nothing.
+-- `argon2::fill_memory` meets its contract: refused, the words stay; accepted, the rows say that the memory has the blocks. Assumes nothing.
 use Prim.Native.Nat.{ℕ}
 use mathlib.Core.List.{List}
 use mathlib.Core.Path.{_≡_, sym, _∙_}
 use native.Mathlib.Omega.{arith}
 use lib.ListN.{length}
 use borrow.Author.Needs.{needs}
-use Rattle.answer.specs.Answers.{first}
+use Rattle.answer.specs.Answers.{number, first}
+use Rattle.answer.proofs.Answered.{left-new, left-old}
+use Rattle.block.specs.Block.{blockWords}
+use Rattle.checks.specs.Rows.{plain, fillRows}
 use Rattle.argon2.specs.Argon2.{filled}
 use Rattle.argon2.specs.Calls.{memoryFilled}
-use Rattle.argon2.specs.Rows.{fillRows}
-use Rattle.argon2.proofs.Answered.{left-new, left-old}
-use Rattle.argon2.proofs.Inputs.{fill-lent, fill-countable}
+use Rattle.argon2.specs.Inner.{Lent}
+use Rattle.argon2.proofs.Inner.{lent-as}
+use Rattle.argon2.proofs.Inputs.{fill-lent}
+use Rattle.argon2.proofs.Parts.{completed}
 use Rattle.argon2.proofs.fill_memory.Statement.{statement}
 use Rattle.argon2.proofs.fill_memory.Tie as tie
 
@@ -19,58 +22,73 @@ use Rattle.argon2.proofs.fill_memory.Tie as tie
 abbrev answer : tie.Start → ℕ
 answer s =
     let a = s .args in
-    first (fillRows (a .params) (length (a .password .now)) (length (a .salt .now)) (length (a .secret .now)) (length (a .ad .now)) (length (a .words .now)))
+    first (fillRows plain blockWords (a .params) (length (a .password .now)) (length (a .salt .now)) (length (a .secret .now)) (length (a .ad .now)) (length (a .words .now)))
 
 abbrev memory : tie.Start → List ℕ
 memory s = let a = s .args in filled (a .params) 0 (a .password .now) (a .salt .now) (a .secret .now) (a .ad .now) (a .words .now)
 
-numbered : (c : tie.After-number) → c .number .result ≡ answer (c .before .before .before .before .before .before .before)
-numbered c = c .number .ensures .result ∙ c .before .check-fill .ensures
+abbrev entry : tie.Else1 → tie.Start
+entry c = c .before .before .before .before .before .before .before .before .before
 
-accepted : (c : tie.Else1) → answer (c .before .before .before .before .before .before .before .before) ≡ 0
+-- the check's answer, by document 01's rule
+checked : (c : tie.After-check-fill) → number (c .check-fill .result) ≡ answer (c .before .before .before .before .before .before .before)
+checked c = rw (c .before .plain .ensures .result) at (c .check-fill .ensures .answer)
+
+numbered : (c : tie.After-number) → c .number .result ≡ answer (c .before .before .before .before .before .before .before .before)
+numbered c = c .number .ensures .result ∙ checked (c .before)
+
+accepted : (c : tie.Else1) → answer (entry c) ≡ 0
 accepted c = omega (arith, numbered (c .before), c .if1 .left)
 
 returns : tie.Need-returns
 unfolding memoryFilled
 returns c =
-    let s = c .before .before .before .before .before .before .before .before in
+    let s = c .before .before .before .before .before .before .before .before .before in
     let refused : answer s ≡ 0 → ⊥ = λ z. c .if1 .taken (numbered (c .before) ∙ z) in
     record {
-      answer = c .before .before .check-fill .ensures;
+      answer = checked (c .before .before);
       memory = sym (left-old (answer s) (memory s) (s .args .words .now) refused);
     }
 
-complete-requires : tie.Need-complete-requires
-complete-requires c κs =
-    let e = c .before in
-    let a = e .before .before .before .before .before .before .before .before .args in
-    let pw = length (a .password .now) in
-    let salt = length (a .salt .now) in
-    let secret = length (a .secret .now) in
-    let ad = length (a .ad .now) in
-    let words = length (a .words .now) in
-    let counts = fill-countable (a .params) pw salt secret ad words (accepted e) in (
-      fill-lent (a .params) pw salt secret ad words (accepted e),
-      record {
-        of-tag = omega arith;
-        of-password = counts .of-password;
-        of-salt = counts .of-salt;
-        of-secret = counts .of-secret;
-        of-ad = counts .of-ad;
-      },
-    )
+lent : (c : tie.Else1) → Lent (entry c .args .params) (length (entry c .args .words .now))
+lent c =
+    let a = entry c .args in
+    fill-lent (a .params) (length (a .password .now)) (length (a .salt .now)) (length (a .secret .now)) (length (a .ad .now)) (length (a .words .now))
+    (accepted c)
+
+first-blocks-requires : tie.Need-first-blocks-requires
+first-blocks-requires c κs = lent (c .before .before)
+
+fill-all-requires : tie.Need-fill-all-requires
+fill-all-requires c κs = lent-as (lent (c .before .before .before .before .before .before)) (search needs)
 
 returns-2 : tie.Need-returns-2
 unfolding memoryFilled
 returns-2 c =
     let f = c .before .before in
-    let e = f .before .before in
-    let s = e .before .before .before .before .before .before .before .before in
+    let b = f .before .before .before .before in
+    let i = b .before .before in
+    let e = i .before in
+    let s = entry e in
+    let a = s .args in
     record {
-      answer = e .before .before .check-fill .ensures;
-      memory = f .complete .ensures ∙ sym (left-new (answer s) (memory s) (s .args .words .now) (accepted e));
+      answer = checked (e .before .before);
+      memory =
+          completed (a .params) 0 (a .password .now) (a .salt .now) (a .secret .now) (a .ad .now) (a .words .now) (i .initial-hash .ensures .result)
+          (b .first-blocks .ensures) (f .fill-all .ensures)
+          ∙ sym (left-new (answer s) (memory s) (a .words .now) (accepted e));
     }
 
 pub fill-memory-spec : {M : Type 1} → statement M
 fill-memory-spec =
-    tie.close (tie.spec (λ c κs. search needs) (λ c κs. search needs) returns complete-requires (λ c. search needs) returns-2)
+    tie.close
+    (tie.spec
+    (λ c κs. search needs)
+    (λ c κs. search needs)
+    (λ c κs. search needs)
+    returns
+    (λ c κs. search needs)
+    first-blocks-requires
+    fill-all-requires
+    (λ c. search needs)
+    returns-2)

@@ -7,10 +7,11 @@ use borrow.Author.Needs.{needs}
 use Rattle.answer.specs.Answers.{first}
 use Rattle.argon2.specs.Argon2.{tagOf}
 use Rattle.argon2.specs.Calls.{finished}
-use Rattle.argon2.specs.Jobs.{finishRows}
-use Rattle.argon2.proofs.Answered.{left-new, left-old}
+use Rattle.job.specs.Jobs.{finishRows}
+use Rattle.answer.proofs.Answered.{left-new, left-old}
 use Rattle.argon2.proofs.Inputs.{tag-some}
-use Rattle.argon2.proofs.Jobs.{finishing}
+use Rattle.checks.proofs.Tags.{held-fits}
+use Rattle.job.proofs.Jobs.{finishing, finish-fits}
 use Rattle.argon2.proofs.finish.Statement.{statement}
 use Rattle.argon2.proofs.finish.Tie as tie
 
@@ -19,7 +20,7 @@ abbrev answer : tie.Start → ℕ
 answer s = first (finishRows (s .args .job) (length (s .args .words .now)) (length (s .args .out .now)))
 
 numbered : (c : tie.After-number) → c .number .result ≡ answer (c .before .before .before .before)
-numbered c = c .number .ensures .result ∙ c .before .check-finish .ensures .0
+numbered c = c .number .ensures .result ∙ c .before .check-finish .ensures .answer
 
 accepted : (c : tie.Else1) → answer (c .before .before .before .before .before) ≡ 0
 accepted c = omega (arith, numbered (c .before), c .if1 .left)
@@ -31,19 +32,21 @@ returns c =
     let a = s .args in
     let refused : answer s ≡ 0 → ⊥ = λ z. omega (arith, numbered (c .before), c .if1 .taken, z) in
     record {
-      answer = c .before .before .check-finish .ensures .0;
+      answer = c .before .before .check-finish .ensures .answer;
       output = sym (left-old (answer s) (tagOf (a .job .params) (length (a .out .now)) (a .words .now)) (a .out .now) refused);
     }
 
-tag-requires : tie.Need-tag-requires
-tag-requires c κs =
+write-tag-requires : tie.Need-write-tag-requires
+write-tag-requires c κs =
     let e = c .before .before in
-    let a = e .before .before .before .before .before .args in
+    let s = e .before .before .before .before .before in
+    let a = s .args in
     let f = finishing (a .job) (length (a .words .now)) (length (a .out .now)) (accepted e) in
     let some = tag-some (a .job .params) (a .job .tag) (f .complete .numbers) (f .complete .tag) in (
       record { accepted = f .complete .numbers; enough = f .fits },
       omega (arith, some, f .length),
-      e .before .before .check-finish .ensures .1 (e .before .before .check-finish .ensures .0 ∙ accepted e),
+      finish-fits (a .job) (length (a .words .now)) (length (a .out .now))
+          (held-fits (a .job .params .configured) (s .good .0 .1 .1 .0 .1 .1 .1 .1 .1 .1 .1 .0)) (accepted e),
     )
 
 returns-2 : tie.Need-returns-2
@@ -54,10 +57,10 @@ returns-2 c =
     let s = e .before .before .before .before .before in
     let a = s .args in
     record {
-      answer = e .before .before .check-finish .ensures .0;
-      output = t .tag .ensures ∙ sym (left-new (answer s) (tagOf (a .job .params) (length (a .out .now)) (a .words .now)) (a .out .now) (accepted e));
+      answer = e .before .before .check-finish .ensures .answer;
+      output = t .write-tag .ensures ∙ sym (left-new (answer s) (tagOf (a .job .params) (length (a .out .now)) (a .words .now)) (a .out .now) (accepted e));
     }
 
 pub finish-spec : {M : Type 1} → statement M
 finish-spec =
-    tie.close (tie.spec (λ c κs. search needs) (λ c κs. search needs) returns tag-requires (λ c. search needs) returns-2)
+    tie.close (tie.spec (λ c κs. search needs) (λ c κs. search needs) returns write-tag-requires (λ c. search needs) returns-2)

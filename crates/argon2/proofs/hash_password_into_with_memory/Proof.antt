@@ -1,18 +1,23 @@
 -- `argon2::hash_password_into_with_memory` meets its contract: refused, words and output stay; accepted, the rows say that the memory has the
--- blocks and that the counts fit. Assumes nothing.
+-- blocks and that the tag can be hashed. Assumes nothing.
 use Prim.Native.Nat.{ℕ, _≤_}
 use mathlib.Core.List.{List}
 use mathlib.Core.Path.{_≡_, sym, ap, _∙_}
 use native.Mathlib.Omega.{arith}
 use lib.ListN.{length}
 use borrow.Author.Needs.{needs}
-use Rattle.answer.specs.Answers.{first}
+use Rattle.answer.specs.Answers.{number, first}
+use Rattle.answer.proofs.Answered.{left-new, left-old}
+use Rattle.block.specs.Block.{blockWords}
+use Rattle.checks.specs.Rows.{plain, startRows}
+use Rattle.checks.proofs.Tags.{held-fits, start-fits}
+use Rattle.word.specs.Word.{maxLength}
 use Rattle.argon2.specs.Argon2.{tagOf, filled}
 use Rattle.argon2.specs.Calls.{hashed}
-use Rattle.argon2.specs.Inner.{Lent, Countable}
-use Rattle.argon2.specs.Rows.{startRows}
-use Rattle.argon2.proofs.Answered.{left-new, left-old}
-use Rattle.argon2.proofs.Inputs.{start-lent, start-countable, start-some}
+use Rattle.argon2.specs.Inner.{Lent}
+use Rattle.argon2.proofs.Inner.{lent-as}
+use Rattle.argon2.proofs.Inputs.{start-lent, start-some}
+use Rattle.argon2.proofs.Parts.{completed}
 use Rattle.argon2.proofs.hash_password_into_with_memory.Statement.{statement}
 use Rattle.argon2.proofs.hash_password_into_with_memory.Tie as tie
 
@@ -20,7 +25,7 @@ use Rattle.argon2.proofs.hash_password_into_with_memory.Tie as tie
 abbrev answer : tie.Start → ℕ
 answer s =
     let a = s .args in
-    first (startRows (a .params) (length (a .out .now)) (length (a .password .now)) (length (a .salt .now)) (length (a .secret .now)) (length (a .ad .now)) (length (a .words .now)))
+    first (startRows plain blockWords (a .params) (length (a .out .now)) (length (a .password .now)) (length (a .salt .now)) (length (a .secret .now)) (length (a .ad .now)) (length (a .words .now)))
 
 abbrev memory : tie.Start → List ℕ
 memory s =
@@ -30,63 +35,81 @@ memory s =
 abbrev output : tie.Start → List ℕ
 output s = tagOf (s .args .params) (length (s .args .out .now)) (memory s)
 
-numbered : (c : tie.After-number) → c .number .result ≡ answer (c .before .before .before .before .before .before .before .before)
-numbered c = c .number .ensures .result ∙ c .before .check-start .ensures .0
+abbrev entry : tie.Else1 → tie.Start
+entry c = c .before .before .before .before .before .before .before .before .before .before
 
-accepted : (c : tie.Else1) → answer (c .before .before .before .before .before .before .before .before .before) ≡ 0
+-- the check's answer, by document 01's rule
+checked : (c : tie.After-check-start) → number (c .check-start .result) ≡ answer (c .before .before .before .before .before .before .before .before)
+checked c = rw (c .before .plain .ensures .result) at (c .check-start .ensures .answer)
+
+numbered : (c : tie.After-number) → c .number .result ≡ answer (c .before .before .before .before .before .before .before .before .before)
+numbered c = c .number .ensures .result ∙ checked (c .before)
+
+accepted : (c : tie.Else1) → answer (entry c) ≡ 0
 accepted c = omega (arith, numbered (c .before), c .if1 .left)
 
 returns : tie.Need-returns
 unfolding hashed
 returns c =
-    let s = c .before .before .before .before .before .before .before .before .before in
+    let s = c .before .before .before .before .before .before .before .before .before .before in
     let refused : answer s ≡ 0 → ⊥ = λ z. c .if1 .taken (numbered (c .before) ∙ z) in
     record {
-      answer = c .before .before .check-start .ensures .0;
+      answer = checked (c .before .before);
       memory = sym (left-old (answer s) (memory s) (s .args .words .now) refused);
       output = sym (left-old (answer s) (output s) (s .args .out .now) refused);
     }
 
-asked : (c : tie.Else1) → let a = c .before .before .before .before .before .before .before .before .before .args in
-    Lent (a .params) (length (a .words .now))
-    × Countable (length (a .out .now)) (length (a .password .now)) (length (a .salt .now)) (length (a .secret .now)) (length (a .ad .now))
-    × (1 ≤ length (a .out .now))
-asked c =
-    let a = c .before .before .before .before .before .before .before .before .before .args in
-    let fits = c .before .before .check-start .ensures .1 (sym (c .before .number .ensures .result) ∙ c .if1 .left) in
-    let n = length (a .out .now) in
-    let pw = length (a .password .now) in
-    let salt = length (a .salt .now) in
-    let secret = length (a .secret .now) in
-    let ad = length (a .ad .now) in
-    let words = length (a .words .now) in (
-      start-lent (a .params) pw salt secret ad words n (accepted c),
-      start-countable (a .params) pw salt secret ad words n (accepted c) fits,
-      start-some (a .params) pw salt secret ad words n (accepted c),
+lent : (c : tie.Else1) → Lent (entry c .args .params) (length (entry c .args .words .now))
+lent c =
+    let a = entry c .args in
+    start-lent (a .params) (length (a .password .now)) (length (a .salt .now)) (length (a .secret .now)) (length (a .ad .now)) (length (a .words .now))
+    (length (a .out .now)) (accepted c)
+
+some : (c : tie.Else1) → 1 ≤ length (entry c .args .out .now)
+some c =
+    let a = entry c .args in
+    start-some (a .params) (length (a .password .now)) (length (a .salt .now)) (length (a .secret .now)) (length (a .ad .now)) (length (a .words .now))
+    (length (a .out .now)) (accepted c)
+
+fits : (c : tie.Else1) → length (entry c .args .out .now) ≤ maxLength
+fits c =
+    let a = entry c .args in
+    start-fits plain blockWords (a .params) (length (a .out .now)) (length (a .password .now)) (length (a .salt .now)) (length (a .secret .now)) (length (a .ad .now))
+    (length (a .words .now)) (held-fits (a .params .configured) (entry c .good .0 .1 .1 .1 .1 .1 .1 .1 .0)) (accepted c)
+
+first-blocks-requires : tie.Need-first-blocks-requires
+first-blocks-requires c κs = lent (c .before .before)
+
+fill-all-requires : tie.Need-fill-all-requires
+fill-all-requires c κs = lent-as (lent (c .before .before .before .before .before .before)) (search needs)
+
+write-tag-requires : tie.Need-write-tag-requires
+write-tag-requires c κs =
+    let e = c .before .before .before .before .before .before .before .before .before .before .before in (
+      lent-as (lent e) (search needs),
+      some e,
+      fits e,
     )
-
-complete-requires : tie.Need-complete-requires
-complete-requires c κs = let h = asked (c .before) in (h .0, h .1)
-
-tag-requires : tie.Need-tag-requires
-tag-requires c κs =
-    let h = asked (c .before .before .before .before .before .before) in
-    (record { accepted = h .0 .accepted; enough = search needs }, h .2, h .1 .of-tag)
 
 returns-2 : tie.Need-returns-2
 unfolding hashed
 returns-2 c =
     let t = c .before .before in
     let f = t .before .before .before .before .before in
-    let e = f .before .before in
-    let s = e .before .before .before .before .before .before .before .before .before in
+    let b = f .before .before .before .before in
+    let i = b .before .before in
+    let e = i .before in
+    let s = entry e in
     let a = s .args in
+    let filling =
+    completed (a .params) (length (a .out .now)) (a .password .now) (a .salt .now) (a .secret .now) (a .ad .now) (a .words .now)
+    (i .initial-hash .ensures .result) (b .first-blocks .ensures) (f .fill-all .ensures) in
     record {
-      answer = e .before .before .check-start .ensures .0;
-      memory = f .complete .ensures ∙ sym (left-new (answer s) (memory s) (a .words .now) (accepted e));
+      answer = checked (e .before .before);
+      memory = filling ∙ sym (left-new (answer s) (memory s) (a .words .now) (accepted e));
       output =
-          t .tag .ensures
-          ∙ ap (tagOf (a .params) (length (a .out .now))) (f .complete .ensures)
+          t .write-tag .ensures
+          ∙ ap (tagOf (a .params) (length (a .out .now))) filling
           ∙ sym (left-new (answer s) (output s) (a .out .now) (accepted e));
     }
 
@@ -96,9 +119,12 @@ hash-password-into-with-memory-spec =
     (tie.spec
     (λ c κs. search needs)
     (λ c κs. search needs)
+    (λ c κs. search needs)
     returns
-    complete-requires
-    tag-requires
+    (λ c κs. search needs)
+    first-blocks-requires
+    fill-all-requires
+    write-tag-requires
     (λ c. search needs)
     (λ c. search needs)
     returns-2)

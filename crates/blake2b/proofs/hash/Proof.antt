@@ -1,43 +1,63 @@
--- `blake2b::hash` meets its contract: a refusal returns before anything is written, else begin, feed, end. Assumes nothing.
+-- `blake2b::hash` meets its contract: a refusal returns before anything is written, else begin, feed, end, and a copy. Assumes nothing.
 use mathlib.Core.Path.{_≡_, sym, _∙_}
+use native.Mathlib.Nat.{le-of-eq}
+use native.Mathlib.Omega.{arith}
 use borrow.Author.Needs.{needs}
-use lib.ListN.{length}
-use Rattle.answer.specs.Answers.{first}
+use lib.ListN.{length, take}
+use lib.Seq.{length-take-le}
+use Rattle.answer.specs.Answers.{first, lengthRows}
+use Rattle.answer.proofs.Answered.{left-new, left-old, between}
+use Rattle.word.proofs.Copied.{copied-whole}
 use Rattle.blake2b.specs.Blake2b.{maxOutput, blake2b}
-use Rattle.blake2b.specs.Stream.{outputRows}
-use Rattle.blake2b.proofs.Outputs.{accepted, if-refused, if-accepted, hashed}
+use Rattle.blake2b.proofs.Hashing.{ended, front}
 use Rattle.blake2b.proofs.hash.Statement.{statement}
 use Rattle.blake2b.proofs.hash.Tie as tie
 
 returns : tie.Need-returns
 returns c =
     let n = c .before .number in
-    let a = c .before .before .output-answer in
+    let a = c .before .before .check-length in
     let s = c .before .before .before .before .before .args in
     record {
       answer = a .ensures .answer;
-      output = if-refused (first (outputRows maxOutput (length (s .out .now)))) (blake2b (length (s .out .now)) (s .input .now)) (s .out .now) (λ e. c .if1 .taken (n .ensures .result ∙ a .ensures .answer ∙ e));
+      output =
+          sym
+          (left-old (first (lengthRows 1 maxOutput (length (s .out .now)))) (blake2b (length (s .out .now)) (s .input .now)) (s .out .now)
+          (λ e. c .if1 .taken (n .ensures .result ∙ a .ensures .answer ∙ e)));
     }
 
 -- the length's answer, past the test
-passes : (c : tie.Else1) → first (outputRows maxOutput (length (c .before .before .before .before .before .args .out .now))) ≡ 0
-passes c = sym (c .before .before .output-answer .ensures .answer) ∙ sym (c .before .number .ensures .result) ∙ c .if1 .left
+passes : (c : tie.Else1) → first (lengthRows 1 maxOutput (length (c .before .before .before .before .before .args .out .now))) ≡ 0
+passes c = sym (c .before .before .check-length .ensures .answer) ∙ sym (c .before .number .ensures .result) ∙ c .if1 .left
+
+-- .. so that the digest has as many bytes
+front-length : (c : tie.After-end)
+    → (let n = length (c .before .before .before .before .before .before .before .before .before .args .out .now) in length (take n (c .end .result)) ≡ n)
+front-length c =
+    let n = length (c .before .before .before .before .before .before .before .before .before .args .out .now) in
+    let d : length (c .end .result) ≡ maxOutput = search needs in
+    length-take-le n (c .end .result) (omega (arith, between 1 maxOutput n (passes (c .before .before .before .before)) .1))
+
+slice-aggregate-copy : tie.Need-slice-aggregate-copy
+slice-aggregate-copy c = sym (front-length (c .before .before))
 
 copy-requires : tie.Need-copy-requires
-copy-requires c κs = accepted maxOutput _ (passes (c .before .before .before .before)) .1
+copy-requires c κs = le-of-eq (front-length (c .before .before .before))
 
 returns-2 : tie.Need-returns-2
 returns-2 c =
-    let d = c .before .before .before .before in
-    let t = d .before .before .before in
+    let k = c .before .before in
+    let d = k .before .before .before .before in
+    let t = d .before .before .before .before in
     let a = t .before .before .before .before .before .args in
     record {
-      answer = t .before .before .output-answer .ensures .answer;
+      answer = t .before .before .check-length .ensures .answer;
       output =
-          c .before .before .copy .ensures
-          ∙ hashed (length (a .out .now)) (a .input .now) (accepted maxOutput _ (passes t) .1)
-          (d .before .before .begin .ensures .result) (d .before .feed .ensures .result) (d .end .ensures .result)
-          ∙ if-accepted (first (outputRows maxOutput (length (a .out .now)))) _ _ (passes t);
+          copied-whole (take (length (a .out .now)) (d .end .result)) (a .out .now) (front-length d) (k .copy .ensures .1)
+          ∙ front (length (a .out .now)) (a .input .now)
+          (ended (length (a .out .now)) (a .input .now) (d .before .before .before .initial .ensures .result)
+          (d .before .before .begin .ensures .result) (d .before .feed .ensures .result) (d .end .ensures .result))
+          ∙ sym (left-new (first (lengthRows 1 maxOutput (length (a .out .now)))) _ _ (passes t));
     }
 
 pub hash-spec : {M : Type 1} → statement M
@@ -50,6 +70,9 @@ hash-spec =
     (λ c κs. search needs)
     (λ c κs. search needs)
     (λ c κs. search needs)
+    (λ c κs. search needs)
+    (λ c. search needs)
+    slice-aggregate-copy
     copy-requires
     (λ c. search needs)
     returns-2)

@@ -5,13 +5,14 @@ use mathlib.Core.Path.{_≡_, refl, sym, ap, _∙_}
 use native.Mathlib.Omega.{arith}
 use borrow.Author.Needs.{needs}
 use lib.ListN.{length}
-use Rattle.answer.specs.Answers.{first}
-use Rattle.word.specs.Word.{toLe}
-use Rattle.blake2b.specs.Blake2b.{maxOutput}
-use Rattle.blake2b.specs.Stream.{outputRows, fresh, feedAll, ended}
-use Rattle.blake2b.proofs.Outputs.{accepted, if-refused, if-accepted}
-use Rattle.blake2b_long.specs.Long.{maxLength, lengthBytes, half, long}
-use Rattle.blake2b_long.proofs.Writing.{Ahead, digested, fed-twice, ahead, one-on, all-on}
+use Rattle.answer.specs.Answers.{first, lengthRows}
+use Rattle.answer.proofs.Answered.{left-new, left-old, between}
+use Rattle.word.specs.Word.{toLe, maxLength}
+use Rattle.blake2b.specs.Blake2b.{maxOutput, initial}
+use Rattle.blake2b.specs.Stream.{feedAll}
+use Rattle.blake2b.proofs.Hashing.{ended}
+use Rattle.blake2b_long.specs.Long.{lengthBytes, halfHash, long}
+use Rattle.blake2b_long.proofs.Writing.{Ahead, digestOf, fed-twice, ahead, one-on, all-on}
 use Rattle.blake2b_long.proofs.blake2b_long.Statement.{statement}
 use Rattle.blake2b_long.proofs.blake2b_long.Tie as tie
 
@@ -23,32 +24,34 @@ abbrev μ-loop : tie.MeasureT-loop
 
 returns : tie.Need-returns Inv-loop μ-loop
 returns c =
-    let a = c .before .before .output-answer in
+    let a = c .before .before .check-length in
     let s = c .before .before .before .before .before .args in
     record {
       answer = a .ensures .answer;
       output =
-          if-refused (first (outputRows maxLength (length (s .out .now)))) (long (length (s .out .now)) (s .input .now)) (s .out .now)
-          (λ e. c .if1 .taken (c .before .number .ensures .result ∙ a .ensures .answer ∙ e));
+          sym
+          (left-old (first (lengthRows 1 maxLength (length (s .out .now)))) (long (length (s .out .now)) (s .input .now)) (s .out .now)
+          (λ e. c .if1 .taken (c .before .number .ensures .result ∙ a .ensures .answer ∙ e)));
     }
 
 -- the length's answer, past the test
-passes : (c : tie.Else1 Inv-loop μ-loop) → first (outputRows maxLength (length (c .before .before .before .before .before .args .out .now))) ≡ 0
-passes c = sym (c .before .before .output-answer .ensures .answer) ∙ sym (c .before .number .ensures .result) ∙ c .if1 .left
+passes : (c : tie.Else1 Inv-loop μ-loop) → first (lengthRows 1 maxLength (length (c .before .before .before .before .before .args .out .now))) ≡ 0
+passes c = sym (c .before .before .check-length .ensures .answer) ∙ sym (c .before .number .ensures .result) ∙ c .if1 .left
 
 cast-to-le32 : tie.Need-cast-to-le32 Inv-loop μ-loop
-cast-to-le32 c = omega (arith, accepted maxLength (length (c .before .before .before .before .before .args .out .now)) (passes c) .1)
+cast-to-le32 c = omega (arith, between 1 maxLength (length (c .before .before .before .before .before .args .out .now)) (passes c) .1)
 
 loop-holds : tie.Need-loop-holds Inv-loop μ-loop
 loop-holds c =
-    let s = c .before .before .before .before .before .before .before .before .before .before .before .before .args in
+    let s = c .before .before .before .before .before .before .before .before .before .before .before .before .before .args in
     let n = length (s .out .now) in
-    let k = c .before .before .before .before .before in (
+    let k = c .before .before .before .before .before .before in (
       omega arith,
       refl,
       ahead n (s .input .now) (c .end .result) (s .out .now)
-          (digested (min n maxOutput) (toLe lengthBytes n ++ s .input .now)
-          (c .before .before .before .before .begin .ensures .result ∙ ap fresh (k .hash-length .ensures))
+          (ended (min n maxOutput) (toLe lengthBytes n ++ s .input .now)
+          (c .before .before .before .before .before .initial .ensures .result ∙ ap initial (k .hash-length .ensures))
+          (c .before .before .before .before .begin .ensures .result)
           (fed-twice (c .before .before .before .before .begin .result) (toLe lengthBytes n) (s .input .now)
           (c .before .before .feed .ensures .result ∙ ap (feedAll (c .before .before .before .before .begin .result)) (k .before .to-le32 .ensures .result))
           (c .before .feed2 .ensures .result))
@@ -57,33 +60,33 @@ loop-holds c =
 
 add-at : tie.Need-add-at Inv-loop μ-loop
 add-at c =
-    let t = c .before .before .before .before .before .before .before .before .before .before .before .before .before in
-    omega (arith, c .before .before .before .before .loop-test .taken, accepted maxLength (length (t .before .before .before .before .before .args .out .now)) (passes t) .1)
+    let t = c .before .before .before .before .before .before .before .before .before .before .before .before .before .before in
+    omega (arith, c .before .before .before .before .loop-test .taken, between 1 maxLength (length (t .before .before .before .before .before .args .out .now)) (passes t) .1)
 
 loop-again : tie.Need-loop-again Inv-loop μ-loop
 loop-again c =
     let l = c .before .before .before .before .before .before .before .loop in
     let p = c .before .before .before .before .put in
-    let s = c .before .before .before .before .before .before .before .before .before .before .before .before .before .before .before .before .before .before .before .before .args in
+    let s = c .before .before .before .before .before .before .before .before .before .before .before .before .before .before .before .before .before .before .before .before .before .args in
     let n = length (s .out .now) in (
       omega arith,
       search needs,
-      one-on (l .out) (l .at) (n - l .at) (l .inv .2) (n - (l .at + half)) (omega arith) (omega arith) (p .ensures) (omega arith)
-          (digested (min (n - (l .at + half)) maxOutput) (l .v) refl refl (c .hash-of .ensures ∙ ap (λ (k : ℕ). ended (feedAll (fresh k) (l .v))) (c .before .hash-length2 .ensures))),
+      one-on (l .out) (l .at) (n - l .at) (l .inv .2) (n - (l .at + halfHash)) (omega arith) (omega arith) (p .ensures) (omega arith)
+          (c .hash-of .ensures ∙ ap (λ (k : ℕ). digestOf k (l .v)) (c .before .hash-length2 .ensures)),
     )
 
 returns-2 : tie.Need-returns-2 Inv-loop μ-loop
 returns-2 c =
     let l = c .before .before .before .before .before .loop in
-    let t = c .before .before .before .before .before .before .before .before .before .before .before .before .before in
+    let t = c .before .before .before .before .before .before .before .before .before .before .before .before .before .before in
     let s = t .before .before .before .before .before .args in
     let n = length (s .out .now) in
     record {
-      answer = t .before .before .output-answer .ensures .answer;
+      answer = t .before .before .check-length .ensures .answer;
       output =
           c .before .before .put2 .ensures
           ∙ all-on (l .out) (l .at) (n - l .at) (l .inv .2) (omega arith) (omega arith)
-          ∙ if-accepted (first (outputRows maxLength n)) (long n (s .input .now)) (s .out .now) (passes t);
+          ∙ sym (left-new (first (lengthRows 1 maxLength n)) (long n (s .input .now)) (s .out .now) (passes t));
     }
 
 pub blake2b-long-spec : {M : Type 1} → statement M
@@ -96,6 +99,7 @@ blake2b-long-spec =
     (λ c κs. search needs)
     returns
     cast-to-le32
+    (λ c κs. search needs)
     (λ c κs. search needs)
     (λ c κs. search needs)
     (λ c κs. search needs)

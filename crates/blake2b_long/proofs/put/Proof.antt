@@ -1,54 +1,45 @@
--- `blake2b_long::put` meets its contract. The invariant: i bytes of v stand in out. Assumes nothing.
-use Prim.Native.Nat.{ℕ, _+_, _≤_, _-_}
-use mathlib.Core.List.{List}
-use mathlib.Core.Path.{_≡_, refl, ap, _∙_}
-use native.Mathlib.Numerals.{add-one}
+-- `blake2b_long::put` meets its contract: the front of v is copied to the part of out. Assumes nothing.
+use Prim.Native.Nat.{ℕ, _+_, _≤_}
+use mathlib.Core.List.{List, _++_}
+use mathlib.Core.Path.{_≡_, sym, ap, _∙_}
 use native.Mathlib.Omega.{arith}
-use lib.ListN.{length, set, length-set}
-use lib.Seq.{paste, paste-zero, paste-suc}
-use Rattle.blake2b.specs.Blake2b.{_!_, maxOutput}
+use borrow.Author.Needs.{needs}
+use lib.ListN.{length, take, drop, length-take, length-drop}
+use lib.Seq.{length-take-le}
+use Rattle.word.proofs.Copied.{copied-part}
+use Rattle.blake2b.specs.Blake2b.{maxOutput}
 use Rattle.blake2b_long.proofs.put.Statement.{statement}
 use Rattle.blake2b_long.proofs.put.Tie as tie
 
-abbrev Inv-loop : tie.InvT-loop
-Inv-loop n out₀ at v i₀ out i =
-    (i ≤ n) × (length out ≡ length out₀) × (out ≡ paste out₀ at v i)
+-- v has as many bytes
+front : (c : tie.Start) → length (take (c .args .n) (c .args .t1)) ≡ c .args .n
+front c =
+    let l : length (c .args .t1) ≡ maxOutput = search needs in
+    length-take-le (c .args .n) (c .args .t1) (omega (arith, c .pre .0))
 
-abbrev μ-loop : tie.MeasureT-loop
-μ-loop n out₀ at v i₀ out i = n - i
+slice-aggregate-copy : tie.Need-slice-aggregate-copy
+slice-aggregate-copy c = sym (front (c .before .before .before))
 
-loop-holds : tie.Need-loop-holds Inv-loop μ-loop
-loop-holds c = (omega arith, refl, paste-zero (c .args .out .now) (c .args .at) (c .args .t1))
+copy-requires : tie.Need-copy-requires
+copy-requires c κs =
+    let s = c .before .before .before .before in
+    simp (length-take, length-drop) (omega (arith, s .pre .1, front s))
 
-loop-again : tie.Need-loop-again Inv-loop μ-loop
-loop-again c =
-    let a = c .before .before in
-    let l = c .before .loop in
-    let k : length (a .args .t1) ≡ maxOutput = a .good .0 .1 .0 .1 in (
-      omega arith,
-      length-set (l .out) (a .args .at + l .i) (a .args .t1 ! l .i) ∙ l .inv .1,
-      ap (λ (o : List ℕ). set o (a .args .at + l .i) (a .args .t1 ! l .i)) (l .inv .2)
-          ∙ rw add-one (paste-suc (a .args .out .now) (a .args .at) (a .args .t1) (l .i) 0 (omega (arith, a .pre .1)) (omega (arith, a .pre .0))),
-    )
-
-returns : tie.Need-returns Inv-loop μ-loop
+returns : tie.Need-returns
 returns c =
-    let a = c .before .before .args in
-    let all : c .before .loop .i ≡ a .n = omega arith in
-    c .before .loop .inv .2 ∙ ap (paste (a .out .now) (a .at) (a .t1)) all
+    let s = c .before .before .before .before .before .before .before in
+    copied-part (take (s .args .n) (s .args .t1)) (s .args .out .now) (s .args .at) (c .before .before .copy .ensures .1)
+    ∙ ap (λ (n : ℕ). take (s .args .at) (s .args .out .now) ++ take (s .args .n) (s .args .t1) ++ drop (s .args .at + n) (s .args .out .now)) (front s)
 
 pub put-spec : {M : Type 1} → statement M
 put-spec =
     tie.close
     (tie.spec
-    Inv-loop
-    μ-loop
-    loop-holds
-    (λ c. omega arith)
-    (λ c. omega arith)
-    (λ c. omega arith)
-    (λ c. omega arith)
-    (λ c. omega arith)
-    loop-again
-    (λ c. omega arith)
+    (λ c. search needs)
+    slice-aggregate-copy
+    (λ c. search needs)
+    (λ c. search needs)
+    (λ c. search needs)
+    copy-requires
+    (λ c. search needs)
     returns)

@@ -5,8 +5,8 @@ use mathlib.Core.Path.{_≡_, refl, sym, ap, _∙_}
 use native.Mathlib.Omega.{arith}
 use borrow.Author.Needs.{needs}
 use lib.ListN.{length, drop}
-use Rattle.word.specs.Word.{toLe}
-use Rattle.blake2b.specs.Blake2b.{bytes}
+use Rattle.word.specs.Word.{toLe, bytes}
+use Rattle.blake2b.specs.Blake2b.{initial}
 use Rattle.blake2b.specs.Stream.{fresh, feedAll}
 use Rattle.lent.specs.Lent.{digestBytes}
 use Rattle.lent.proofs.Feeding.{begun, fed, ended-is}
@@ -15,7 +15,7 @@ use Rattle.lent.proofs.digest.Tie as tie
 
 abbrev Inv-loop : tie.InvT-loop
 Inv-loop words s₀ i₀ s i =
-    (i ≤ length words) × (feedAll s (bytes (drop i words)) ≡ feedAll (fresh digestBytes) (toLe 4 digestBytes ++ bytes words))
+    (i ≤ length words) × (feedAll s (bytes (drop i words)) ≡ feedAll (fresh (initial digestBytes)) (toLe 4 digestBytes ++ bytes words))
 
 abbrev μ-loop : tie.MeasureT-loop
 μ-loop words s₀ i₀ s i = length words - i
@@ -23,7 +23,8 @@ abbrev μ-loop : tie.MeasureT-loop
 loop-holds : tie.Need-loop-holds Inv-loop μ-loop
 loop-holds c =
     let b = c .before .before in
-    (omega arith, begun (b .before .before .before .args .words .now) _ _ (c .feed .ensures .result) (b .begin .ensures .result) (b .before .to-le32 .ensures .result))
+    let i = b .before in
+    (omega arith, begun (i .before .before .before .args .words .now) _ _ (i .initial .ensures .result) (b .begin .ensures .result) (c .feed .ensures .result) (i .before .to-le32 .ensures .result))
 
 loop-again : tie.Need-loop-again Inv-loop μ-loop
 loop-again c =
@@ -42,6 +43,7 @@ digest-spec =
     Inv-loop
     μ-loop
     (λ c. search needs)
+    (λ c κs. search needs)
     (λ c κs. search needs)
     (λ c κs. search needs)
     (λ c. search needs)

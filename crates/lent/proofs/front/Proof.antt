@@ -1,52 +1,39 @@
--- `lent::front` meets its contract. The invariant: the front of the hash stands in the digest. Assumes nothing.
-use Prim.Native.Nat.{ℕ, _-_, _≤_}
-use mathlib.Core.List.{List, _++_}
-use mathlib.Core.Path.{_≡_, refl, ap, _∙_}
+-- `lent::front` meets its contract: the front of the hash is copied. Assumes nothing.
+use mathlib.Core.Path.{_≡_, sym}
+use native.Mathlib.Nat.{le-of-eq}
 use native.Mathlib.Omega.{arith}
 use borrow.Author.Needs.{needs}
-use lib.ListN.{length, getD, take, drop, set, length-set, replicate}
+use lib.ListN.{length, take, replicate}
+use lib.Seq.{length-take-le}
+use Rattle.word.proofs.Copied.{copied-whole}
 use Rattle.blake2b.specs.Blake2b.{maxOutput}
-use Rattle.blake2b.proofs.Bytes.{copied-more, copied-all}
 use Rattle.lent.specs.Lent.{digestBytes}
 use Rattle.lent.proofs.front.Statement.{statement}
 use Rattle.lent.proofs.front.Tie as tie
 
-abbrev none : List ℕ
-none = replicate digestBytes 0
+-- the hash has as many bytes
+front : (c : tie.Start) → length (take digestBytes (c .args .t1)) ≡ digestBytes
+front c =
+    let l : length (c .args .t1) ≡ maxOutput = search needs in
+    length-take-le digestBytes (c .args .t1) (omega arith)
 
-abbrev Inv-loop : tie.InvT-loop
-Inv-loop hash digest₀ i₀ digest i = (i ≤ digestBytes) × (length digest ≡ digestBytes) × (digest ≡ take i hash ++ drop i none)
+slice-aggregate-copy : tie.Need-slice-aggregate-copy
+slice-aggregate-copy c = sym (front (c .before .before))
 
-abbrev μ-loop : tie.MeasureT-loop
-μ-loop hash digest₀ i₀ digest i = digestBytes - i
+copy-requires : tie.Need-copy-requires
+copy-requires c κs = le-of-eq (front (c .before .before .before))
 
-loop-holds : tie.Need-loop-holds Inv-loop μ-loop
-loop-holds c = (omega arith, refl, refl)
-
-loop-again : tie.Need-loop-again Inv-loop μ-loop
-loop-again c =
-    let a = c .before .before in
-    let l = c .before .loop in
-    let v = getD (a .args .t1) (l .i) 0 in
-    let n : length (a .args .t1) ≡ maxOutput = search needs in (
-      omega arith,
-      length-set (l .digest) (l .i) v ∙ l .inv .1,
-      ap (λ (d : List ℕ). set d (l .i) v) (l .inv .2) ∙ copied-more (a .args .t1) none (l .i) v (omega arith) (omega arith) refl,
-    )
-
-returns : tie.Need-returns Inv-loop μ-loop
-returns c = let l = c .before .loop in l .inv .2 ∙ copied-all (c .before .before .args .t1) none (l .i) (omega arith)
+returns : tie.Need-returns
+returns c =
+    let s = c .before .before .before .before .before in
+    copied-whole (take digestBytes (s .args .t1)) (replicate digestBytes 0) (front s) (c .before .copy .ensures .1)
 
 pub front-spec : {M : Type 1} → statement M
 front-spec =
     tie.close
     (tie.spec
-    Inv-loop
-    μ-loop
-    loop-holds
     (λ c. search needs)
-    (λ c. omega arith)
-    (λ c. omega arith)
-    (λ c. omega arith)
-    loop-again
+    slice-aggregate-copy
+    (λ c. search needs)
+    copy-requires
     returns)

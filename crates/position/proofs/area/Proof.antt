@@ -1,46 +1,38 @@
--- `position::area` meets its contract. Assumes nothing.
-use Prim.Native.Nat.{ℕ, _+_, _-_}
-use mathlib.Core.Bool.{Bool, cond}
-use mathlib.Core.Path.{_≡_, ap, ap₂, _∙_}
+-- `position::area` meets its contract: one block at least is left, so that nothing is cut off. Assumes nothing.
 use native.Mathlib.Omega.{arith}
 use borrow.Author.Needs.{needs}
-use lib.Dec.{eqb}
-use Rattle.position.specs.Position.{finished, area}
+use borrow.Author.Tests.{eq-eqb, ne-eqb}
+use Rattle.position.specs.Position.{area}
 use Rattle.position.proofs.Lane.{finished-le}
 use Rattle.position.proofs.area.Statement.{statement}
 use Rattle.position.proofs.area.Tie as tie
 
-add-less : tie.Need-add-less
-add-less c =
-    let a = c .before .args in
-    omega (arith, c .finished .ensures, finished-le (a .segment) (a .pass) (a .slice) (omega arith))
-
--- the results of the calls, one from the other
-chained : (own first : Bool) (k f : ℕ) {w a b p r : ℕ} → w ≡ f → a ≡ w + k - 1 → p ≡ cond first 1 0 → b ≡ w - p → r ≡ cond own a b
-    → r ≡ cond own (f + k - 1) (f - cond first 1 0)
-chained own first k f whole near drop far picked =
-    picked
-    ∙ ap₂ (λ (x y : ℕ). cond own x y) (near ∙ ap (λ (x : ℕ). x + k - 1) whole) (far ∙ ap₂ (λ (x y : ℕ). x - y) whole drop)
+add-result : tie.Need-add-result
+add-result c =
+    let a = c .before .before .args in
+    omega (arith, c .before .finished-length .ensures, finished-le (a .segment) (a .pass) (a .slice) (omega arith))
 
 returns : tie.Need-returns
 unfolding area
-returns c =
-    let a = c .before .before .before .before .before .args in
-    chained (a .own) (eqb (a .block) 0) (a .block) (finished (a .segment) (a .pass) (a .slice))
-    (c .before .before .before .before .finished .ensures)
-    (c .before .before .before .less .ensures)
-    (c .before .before .pick .ensures)
-    (c .before .less2 .ensures)
-    (c .pick2 .ensures)
+returns c = rw (c .before .finished-length .ensures, c .if1 .taken)
+
+sub-result : tie.Need-sub-result
+sub-result c = omega (arith, returns c)
+
+returns-2 : tie.Need-returns-2
+unfolding area
+returns-2 c =
+    rw (c .before .before .finished-length .ensures, c .before .if1 .left, eq-eqb (c .before .before .before .args .block) _ (c .if2 .taken))
+
+sub-result-2 : tie.Need-sub-result-2
+sub-result-2 c = omega (arith, returns-2 c)
+
+returns-3 : tie.Need-returns-3
+unfolding area
+returns-3 c =
+    rw (c .before .before .finished-length .ensures, c .before .if1 .left, ne-eqb (c .before .before .before .args .block) _ (c .if2 .left))
+    (omega arith)
 
 pub area-spec : {M : Type 1} → statement M
 area-spec =
-    tie.close
-    (tie.spec
-    (λ c κs. search needs)
-    add-less
-    (λ c κs. search needs)
-    (λ c κs. search needs)
-    (λ c κs. search needs)
-    (λ c κs. search needs)
-    returns)
+    tie.close (tie.spec (λ c κs. search needs) add-result sub-result returns sub-result-2 returns-2 returns-3)

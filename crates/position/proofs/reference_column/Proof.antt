@@ -10,8 +10,10 @@ use Rattle.position.proofs.reference_column.Tie as tie
 
 place-requires : tie.Need-place-requires
 place-requires c κs =
-    let a = c .before .before .args in
-    omega (arith, c .area .ensures, area-le (a .segment) (a .pass) (a .slice) (a .block) (a .own) (omega arith) (omega arith))
+    let a = c .before .before .args in (
+      omega (arith, c .area .ensures),
+      omega (arith, c .area .ensures, area-le (a .segment) (a .pass) (a .slice) (a .block) (a .own) (omega arith) (omega arith)),
+    )
 
 add-at : tie.Need-add-at
 add-at c =
@@ -22,7 +24,7 @@ add-at c =
       place-le (c .before .area .result) (a .word),
       c .before .area .ensures,
       area-le (a .segment) (a .pass) (a .slice) (a .block) (a .own) (omega arith) (omega arith),
-      c .before .before .start .ensures,
+      c .before .before .area-start .ensures,
       start-le (a .segment) (a .pass) (a .slice) (omega arith),
     )
 
@@ -31,7 +33,7 @@ cast-number c =
     let a = c .before .before .before .args in
     omega (
       arith,
-      mod-lt (c .before .before .start .result + c .place .result) {m = slices * a .segment} (omega arith),
+      mod-lt (c .before .before .area-start .result + c .place .result) {m = slices * a .segment} (omega arith),
     )
 
 returns : tie.Need-returns

@@ -5,9 +5,10 @@ use borrow.Author.Needs.{needs}
 use borrow.Author.Tests.{not-true, not-false}
 use Rattle.answer.specs.Answers.{number, first}
 use Rattle.params.specs.Limits.{costRows, segmentLength}
-use Rattle.params.proofs.Within.{Within, within, segment-most}
+use Rattle.params.proofs.Within.{Within, within, two, segment-most}
 use Rattle.position.specs.Position.{referenceColumn}
 use Rattle.position.proofs.Accepted.{Filled, filled, refuses-costs, refuses-position, accepts}
+use Rattle.position.proofs.Bound.{area-bound}
 use Rattle.position.proofs.reference_position.Statement.{statement}
 use Rattle.position.proofs.reference_position.Tie as tie
 
@@ -27,7 +28,7 @@ returns-2 : tie.Need-returns-2
 returns-2 c =
     refuses-position
     (costs-pass (c .before .before .before .before))
-    (rw (← c .before .before .before .segment-length .ensures) (sym (c .before .before .fills .ensures) ∙ not-true _ (c .before .if2 .taken)))
+    (rw (← c .before .before .before .segment-of .ensures .result) (sym (c .before .before .fills .ensures) ∙ not-true _ (c .before .if2 .taken)))
     (c .refused2 .ensures .0)
     (c .refused2 .ensures .1)
     (c .refused2 .ensures .2)
@@ -40,14 +41,19 @@ inside c =
     let a = c .before .before .before .before .before .before .args in (
       within (a .lanes) (a .memory) (a .passes) (costs-pass (c .before .before .before)),
       filled (a .lanes) (segmentLength (a .memory) (a .lanes)) (a .passes) (a .pass) (a .slice) (a .lane .0) (a .block)
-          (rw (← c .before .before .segment-length .ensures) (sym (c .before .fills .ensures) ∙ not-false _ (c .if2 .left))),
+          (rw (← c .before .before .segment-of .ensures .result) (sym (c .before .fills .ensures) ∙ not-false _ (c .if2 .left))),
     )
 
 reference-column-requires : tie.Need-reference-column-requires
 reference-column-requires c κs =
-    let s = c .before .before .before .before .before .segment-length .ensures in
+    let s = c .before .before .before .before .before .segment-of .ensures .result in
     let known = inside (c .before .before .before) in
-    (rw s (segment-most (known .0)), known .1 .slice, rw s (known .1 .inside))
+    let word = c .before .before .before .before .before .before .before .before .before .args .word in (
+      rw s (segment-most (known .0)),
+      known .1 .slice,
+      rw s (known .1 .inside),
+      rw (s, c .before .before .reference-lane .ensures) (area-bound (two (known .0)) (known .1) word .some),
+    )
 
 returns-3 : tie.Need-returns-3
 unfolding referenceColumn
@@ -55,7 +61,7 @@ returns-3 c =
     let known = inside (c .before .before .before .before) in
     let to = c .before .before .before .reference-lane .ensures in
     accepts (known .0) (known .1) refl to
-    (rw (← c .before .before .before .before .before .before .segment-length .ensures, ← to) (c .reference-column .ensures))
+    (rw (← c .before .before .before .before .before .before .segment-of .ensures .result, ← to) (c .reference-column .ensures))
 
 pub reference-position-spec : {M : Type 1} → statement M
 reference-position-spec =

@@ -8,8 +8,8 @@ use borrow.Author.Needs.{needs}
 use lib.ListN.{length, drop, getD}
 use lib.Seq.{drop-cons, drop-length}
 use Rattle.argon2.specs.Promises.{StepPromise}
-use Rattle.argon2.specs.declared.job.Job.{Job}
-use Rattle.argon2.specs.declared.job.Stepped.{Stepped}
+use Rattle.job.specs.declared.Job.{Job}
+use Rattle.job.specs.declared.Stepped.{Stepped}
 use Rattle.turns.specs.Play.{State, on, step, run}
 use Rattle.turns.proofs.play.Statement.{statement}
 use Rattle.turns.proofs.play.Tie as tie

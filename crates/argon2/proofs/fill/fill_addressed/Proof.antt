@@ -7,7 +7,7 @@ use native.Mathlib.Omega.{arith}
 use borrow.Author.Needs.{needs}
 use Rattle.block.specs.declared.Block.{Block}
 use Rattle.params.specs.Limits.{segment}
-use Rattle.position.specs.Address.{addressBlock}
+use Rattle.address.specs.Address.{addressBlock}
 use Rattle.position.specs.Position.{firstBlock}
 use Rattle.argon2.specs.Filling.{fill, fillSegment}
 use Rattle.argon2.proofs.Filling.{word-addressed}
@@ -45,9 +45,9 @@ addresses-is c =
     let a = c .before .before .before .before .before .before .before .before .args in
     let l = c .before .before .before .loop in
     ⊎-elim
-    (λ t. ap (λ (b : Block). b .words) (t .3) ∙ t .1 .ensures)
+    (λ t. ap (λ (b : Block). b .words) (t .3) ∙ t .1 .ensures .words)
     (λ t.
-    let h : 1 ≤ l .made = omega (arith, t .0 .left, c .before .address-counter .ensures) in
+    let h : 1 ≤ l .made = omega (arith, t .0 .left, c .before .address-counter .ensures .result) in
     ap (λ (b : Block). b .words) (t .2)
     ∙ l .inv .2 h
     ∙ ap (λ (n : ℕ). addressBlock (a .params) (a .pass) (a .slice) (a .lane .0) n) (t .0 .left))
@@ -60,8 +60,8 @@ fill-with-requires c κs =
     let start = j .before .before .before .before .before .before .before .before in
     let a = start .args in (
       fillable (start .pre .0) (l .inv .1 .long) (l .inv .0) (omega arith),
-      c .before .address-word .ensures
-          ∙ rw (addresses-is j, j .before .address-counter .ensures)
+      c .before .address-word .ensures .result
+          ∙ rw (addresses-is j, j .before .address-counter .ensures .result)
           (sym (word-addressed (a .params) (a .pass) (a .slice) (a .lane .0) (l .block) (l .words) (start .pre .1))),
     )
 

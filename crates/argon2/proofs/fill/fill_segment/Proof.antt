@@ -5,10 +5,10 @@ use Rattle.argon2.proofs.fill.fill_segment.Statement.{statement}
 use Rattle.argon2.proofs.fill.fill_segment.Tie as tie
 
 fill-addressed-requires : tie.Need-fill-addressed-requires
-fill-addressed-requires c κs = (c .before .before .before .before .pre, sym (c .before .before .is-addressed .ensures) ∙ c .before .if1 .taken)
+fill-addressed-requires c κs = (c .before .before .before .before .pre, sym (c .before .before .is-addressed .ensures .result) ∙ c .before .if1 .taken)
 
 fill-dependent-requires : tie.Need-fill-dependent-requires
-fill-dependent-requires c κs = (c .before .before .before .before .pre, sym (c .before .before .is-addressed .ensures) ∙ c .before .if1 .left)
+fill-dependent-requires c κs = (c .before .before .before .before .pre, sym (c .before .before .is-addressed .ensures .result) ∙ c .before .if1 .left)
 
 pub fill-segment-spec : {M : Type 1} → statement M
 fill-segment-spec =

@@ -1,43 +1,66 @@
 -- `argon2::fill::fill_with` meets its contract: each part is the definition's, and each block lies in the memory. Assumes nothing.
-use mathlib.Core.Path.{_∙_}
+use mathlib.Core.Path.{_≡_, _∙_}
 use borrow.Author.Needs.{needs}
+use Rattle.params.specs.Limits.{segment}
+use Rattle.position.specs.Position.{reference}
+use Rattle.position.proofs.Accepted.{reference-index}
+use Rattle.position.proofs.Columns as columns
+use Rattle.argon2.specs.Filling.{currentIndex, previousIndex}
 use Rattle.argon2.proofs.Filling.{fill-parts}
 use Rattle.argon2.proofs.Inner.{accepted, current-room, previous-room, reference-room}
 use Rattle.argon2.proofs.fill.fill_with.Statement.{statement}
 use Rattle.argon2.proofs.fill.fill_with.Tie as tie
 
-read-block-requires : tie.Need-read-block-requires
-read-block-requires c κs = rw (c .previous-index .ensures) (previous-room (c .before .before .before .pre .0))
+-- the three numbers in memory
+is-previous : (c : tie.After-index)
+    → let a = c .before .before .before .args in c .index .result ≡ previousIndex (a .params) (a .slice) (a .lane .0) (a .block)
+is-previous c =
+    let f = c .before .before .before .pre .0 in
+    columns.previous-index (f .of .slice) (f .inside) (c .index .ensures) (c .before .previous-column .ensures)
 
-reference-index-requires : tie.Need-reference-index-requires
-reference-index-requires c κs = accepted (c .before .before .before .before .before .pre .0)
+is-reference : (c : tie.After-index2)
+    → let a = c .before .before .before .before .before .before .before .before .before .args in
+    c .index2 .result ≡ reference (a .params .lanes) (segment (a .params)) (a .pass) (a .slice) (a .lane .0) (a .block) (a .word)
+is-reference c =
+    let f = c .before .before .before .before .before .before .before .before .before .pre .0 in
+    reference-index (accepted f) (c .before .before .before .reference-position .ensures) (c .index2 .ensures)
+
+is-current : (c : tie.After-index3)
+    → let a = c .before .before .before .before .before .before .before .before .before .before .before .before .before .args in
+    c .index3 .result ≡ currentIndex (a .params) (a .slice) (a .lane .0) (a .block)
+is-current c =
+    let f = c .before .before .before .before .before .before .before .before .before .before .before .before .before .pre .0 in
+    columns.current-index (f .of .slice) (f .inside) (c .index3 .ensures) (c .before .column .ensures)
+
+read-block-requires : tie.Need-read-block-requires
+read-block-requires c κs = rw (is-previous (c .before)) (previous-room (c .before .before .before .before .pre .0))
 
 read-block-requires-2 : tie.Need-read-block-requires-2
 read-block-requires-2 c κs =
-    let s = c .before .before .before .before .before .before in
-    rw (c .reference-index .ensures) (reference-room (s .pre .0) (s .args .word))
+    let start = c .before .before .before .before .before .before .before .before .before in
+    rw (is-reference c) (reference-room (start .pre .0) (start .args .word))
 
 store-requires : tie.Need-store-requires
 store-requires c κs =
-    let s = c .before .before .before .before .before .before .before .before .before .before in
-    rw (c .current-index .ensures) (current-room (s .pre .0))
+    let start = c .before .before .before .before .before .before .before .before .before .before .before .before .before .before in
+    rw (is-current (c .before)) (current-room (start .pre .0))
 
 returns : tie.Need-returns
 returns c =
     let store = c .before .before in
-    let at = store .before in
+    let at = store .before .before in
     let new = at .before .before in
     let referred = new .before in
     let from = referred .before in
-    let previous = from .before .before in
-    let before = previous .before in
+    let previous = from .before .before .before .before in
+    let before = previous .before .before in
     let start = before .before .before .before in
     let a = start .args in
     store .store .ensures
     ∙ fill-parts (a .params) (a .pass) (a .slice) (a .lane .0) (a .block) (a .words .now) (a .word)
-    (before .previous-index .result) (from .reference-index .result) (at .current-index .result)
+    (before .index .result) (from .index2 .result) (at .index3 .result)
     (previous .read-block .result .words) (referred .read-block2 .result .words) (new .compress .result .words)
-    (start .pre .1) (before .previous-index .ensures) (from .reference-index .ensures) (at .current-index .ensures)
+    (start .pre .1) (is-previous before) (is-reference from) (is-current at)
     (previous .read-block .ensures) (referred .read-block2 .ensures) (new .compress .ensures .result)
 
 pub fill-with-spec : {M : Type 1} → statement M
@@ -45,9 +68,12 @@ fill-with-spec =
     tie.close
     (tie.spec
     (λ c κs. search needs)
+    (λ c κs. search needs)
     read-block-requires
-    reference-index-requires
+    (λ c κs. search needs)
+    (λ c κs. search needs)
     read-block-requires-2
+    (λ c κs. search needs)
     (λ c κs. search needs)
     (λ c κs. search needs)
     store-requires

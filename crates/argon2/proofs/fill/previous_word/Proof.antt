@@ -5,18 +5,35 @@ use native.Mathlib.Omega.{arith}
 use borrow.Author.Needs.{needs}
 use lib.ListN.{getD}
 use Rattle.block.specs.Block.{blockWords}
+use Rattle.position.proofs.Columns.{previous-index}
 use Rattle.argon2.specs.Filling.{previousIndex}
 use Rattle.argon2.proofs.Memory.{block-at}
 use Rattle.argon2.proofs.fill.previous_word.Statement.{statement}
 use Rattle.argon2.proofs.fill.previous_word.Tie as tie
 
+is-previous : (c : tie.After-index)
+    → let a = c .before .before .before .args in c .index .result ≡ previousIndex (a .params) (a .slice) (a .lane .0) (a .block)
+is-previous c =
+    let pre = c .before .before .before .pre in
+    previous-index (pre .0) (pre .1) (c .index .ensures) (c .before .previous-column .ensures)
+
+shared-slice-read-result : tie.Need-shared-slice-read-result
+shared-slice-read-result c = omega (arith, is-previous (c .before), c .before .before .before .before .pre .2)
+
 returns : tie.Need-returns
 returns c =
-    let a = c .before .before .before .args in
+    let a = c .before .before .before .before .args in
     let b : ℕ = previousIndex (a .params) (a .slice) (a .lane .0) (a .block) in
-    let e : blockWords * c .before .previous-index .result ≡ blockWords * b + 0 = omega (arith, c .before .previous-index .ensures) in
+    let e : blockWords * c .before .index .result ≡ blockWords * b + 0 = omega (arith, is-previous (c .before)) in
     ap (λ (i : ℕ). getD (a .words .now) i 0) e ∙ sym (block-at b (a .words .now) 0 (omega arith))
 
 pub previous-word-spec : {M : Type 1} → statement M
 previous-word-spec =
-    tie.close (tie.spec (λ c κs. search needs) (λ c. search needs) (λ c. search needs) (λ c. search needs) returns)
+    tie.close
+    (tie.spec
+    (λ c κs. search needs)
+    (λ c κs. search needs)
+    (λ c. search needs)
+    (λ c. search needs)
+    shared-slice-read-result
+    returns)

@@ -9,9 +9,9 @@ use Rattle.argon2.proofs.fill.random_word.Tie as tie
 returns : tie.Need-returns
 returns c =
     let a = c .before .before .before .before .before .before .before .before .args in
-    let t = sym (c .before .before .before .before .before .before .is-addressed .ensures) ∙ c .before .before .before .before .before .if1 .taken in
-    c .address-word .ensures
-    ∙ rw (c .before .before .before .address-block .ensures, c .before .before .before .before .address-counter .ensures)
+    let t = sym (c .before .before .before .before .before .before .is-addressed .ensures .result) ∙ c .before .before .before .before .before .if1 .taken in
+    c .address-word .ensures .result
+    ∙ rw (c .before .before .before .address-block .ensures .words, c .before .before .before .before .address-counter .ensures .result)
     (sym (word-addressed (a .params) (a .pass) (a .slice) (a .lane .0) (a .block) (a .words .now) t))
 
 previous-word-requires : tie.Need-previous-word-requires
@@ -22,7 +22,7 @@ previous-word-requires c κs =
 returns-2 : tie.Need-returns-2
 returns-2 c =
     let a = c .before .before .before .before .args in
-    let t = sym (c .before .before .is-addressed .ensures) ∙ c .before .if1 .left in
+    let t = sym (c .before .before .is-addressed .ensures .result) ∙ c .before .if1 .left in
     c .previous-word .ensures ∙ sym (word-dependent (a .params) (a .pass) (a .slice) (a .lane .0) (a .block) (a .words .now) t)
 
 pub random-word-spec : {M : Type 1} → statement M

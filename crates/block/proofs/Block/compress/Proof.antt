@@ -1,7 +1,5 @@
--- `block::Block::compress` meets its contract: the lines are the rows, and then the columns. Assumes nothing.
+-- `block::Block::compress` meets its contract: the rows, and then the columns. Assumes nothing.
 use borrow.Author.Needs.{needs}
-use Rattle.block.specs.Line.{into-rows, into-columns}
-use Rattle.block.proofs.Line.{are-lines}
 use Rattle.block.proofs.Stepping.{passed}
 use Rattle.block.proofs.Block.compress.Statement.{statement}
 use Rattle.block.proofs.Block.compress.Tie as tie
@@ -9,20 +7,9 @@ use Rattle.block.proofs.Block.compress.Tie as tie
 returns : tie.Need-returns
 returns c =
     let s2 = c .before .before in
-    record {
-      result =
-          passed _ _ (c .xor2 .ensures .result)
-          (are-lines (c .before .lines2 .ensures) (search (into-rows, into-columns)))
-          (are-lines (s2 .lines .ensures) (search (into-rows, into-columns)))
-          (s2 .before .xor .ensures .result);
-    }
+    record { result = passed _ _ (c .xor2 .ensures .result) (c .before .columns .ensures) (s2 .rows .ensures) (s2 .before .xor .ensures .result) }
 
 pub compress-spec : {M : Type 1} → statement M
 compress-spec =
     tie.close
-    (tie.spec
-    (λ c κs. search needs)
-    (λ c κs. search (into-rows, into-columns))
-    (λ c κs. search (into-rows, into-columns))
-    (λ c κs. search needs)
-    returns)
+    (tie.spec (λ c κs. search needs) (λ c κs. search needs) (λ c κs. search needs) (λ c κs. search needs) returns)

@@ -1,33 +1,7 @@
--- `params::Params::segment_length` meets its contract; a division by no lanes gives 0. Assumes nothing.
-use Prim.Native.Nat.{_*_}
-use native.Mathlib.Omega.{arith}
-use native.Mathlib.Nat.{div-le-self, div-zero}
+-- `params::Params::segment_length` meets its contract. Assumes nothing.
 use borrow.Author.Needs.{needs}
-use Rattle.params.specs.Limits.{segmentLength, slices}
 use Rattle.params.proofs.Params.segment_length.Statement.{statement}
 use Rattle.params.proofs.Params.segment_length.Tie as tie
 
-returns : tie.Need-returns
-unfolding segmentLength
-returns c = record { result = rw (c .if1 .taken) (rw div-zero) }
-
-cast-result : tie.Need-cast-result-2
-cast-result c =
-    let P = c .before .before .before .args .self in omega (arith, div-le-self (P .memory) (slices * P .lanes))
-
-returns-2 : tie.Need-returns-2
-unfolding segmentLength
-returns-2 c = search needs
-
 pub segment-length-spec : {M : Type 1} → statement M
-segment-length-spec =
-    tie.close
-    (tie.spec
-    (λ c. search needs)
-    returns
-    (λ c. search needs)
-    (λ c. search needs)
-    (λ c. search needs)
-    (λ c. search needs)
-    cast-result
-    returns-2)
+segment-length-spec = tie.close (tie.spec (λ c κs. search needs) (λ c. record { result = c .segment-of .ensures .result }))

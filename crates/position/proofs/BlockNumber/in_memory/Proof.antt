@@ -4,13 +4,14 @@ use native.Mathlib.Nat.{le-of-lt, mul-le-mul-left}
 use native.Mathlib.Omega.{arith}
 use borrow.Author.Needs.{needs}
 use lib.Arith.{digits-lt}
-use Rattle.block.proofs.Mixing.{product-lt}
+use Rattle.word.specs.Word.{half}
+use Rattle.word.proofs.Half.{product-lt}
 use Rattle.position.proofs.BlockNumber.in_memory.Statement.{statement}
 use Rattle.position.proofs.BlockNumber.in_memory.Tie as tie
 
-sum-lt : (q l c : ℕ) → q < 2 ^ 32 → l < 2 ^ 32 → c < 2 ^ 32 → l * q + c < 2 ^ 64
+sum-lt : (q l c : ℕ) → q < half → l < half → c < half → l * q + c < 2 ^ 64
 sum-lt q l c hq hl hc =
-    omega (arith, mul-le-mul-left l (le-of-lt hq), digits-lt {q = l} {m = 2 ^ 32} {r = c} {c = 2 ^ 32} hl hc)
+    omega (arith, mul-le-mul-left l (le-of-lt hq), digits-lt {q = l} {m = half} {r = c} {c = half} hl hc)
 
 mul-result : tie.Need-mul-result
 mul-result c = record { fits = product-lt 32 (omega arith) (omega arith) }

@@ -1,0 +1,5 @@
+pub mod AddressFree
+pub mod Addresses
+pub mod Cases
+pub mod Settled
+pub mod Vectors

@@ -1,0 +1,5 @@
+pub mod Digests
+pub mod HashInput
+pub mod Laid
+pub mod MemoryCost
+pub mod Settled

@@ -1,0 +1,5 @@
+pub mod Exactly
+pub mod Jobs
+pub mod Settled
+pub mod Standing
+pub mod Tests
