@@ -13,3 +13,4 @@ pub mod Started
 pub mod Steps
 pub mod Sums
 pub mod Tag
+pub mod WholeHash
