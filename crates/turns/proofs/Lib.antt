@@ -4,6 +4,7 @@ pub mod Canonical
 pub mod Cases
 pub mod Completion
 pub mod Confluence
+pub mod FillMemory
 pub mod Forgotten
 pub mod Order
 pub mod Rank
