@@ -7,6 +7,7 @@ pub mod Confluence
 pub mod FillMemory
 pub mod Forgotten
 pub mod Order
+pub mod Outside
 pub mod Rank
 pub mod Referred
 pub mod Settled
