@@ -23,9 +23,14 @@ use Rattle.argon2.proofs.Memory.{block-put-other}
 pub overwrites-zero : (P : Params) → overwrites P 0 ≡ true
 overwrites-zero P = refl
 
--- what is stored: the new block in pass 0 and in version 16; in version 19, every pass from 1 on, its XOR with what stood there
+-- what is stored: the new block in pass 0; in version 19, every pass from 1 on, its XOR with what stood there; in version 16 the new block
 pub stored-zero : (P : Params) (old new : List ℕ) → stored P 0 old new ≡ new
 stored-zero P old new = refl
+
+pub stored-19 : (P : Params) (r : ℕ) (old new : List ℕ) → P .version ≡ 19 → 1 ≤ r → stored P r old new ≡ xors old new
+stored-19 P r old new e h =
+    ap (λ (v : ℕ). cond (eqb r 0 || eqb v 16) new (xors old new)) e
+    ∙ ap (λ (t : Bool). cond (t || eqb 19 16) new (xors old new)) (ne-eqb r 0 (λ z. omega (arith, z)))
 
 pub stored-16 : (P : Params) (r : ℕ) (old new : List ℕ) → P .version ≡ 16 → stored P r old new ≡ new
 stored-16 P r old new e =
@@ -34,11 +39,6 @@ stored-16 P r old new e =
     go : (t : Bool) → cond (t || true) new (xors old new) ≡ new
     go true = refl
     go false = refl
-
-pub stored-19 : (P : Params) (r : ℕ) (old new : List ℕ) → P .version ≡ 19 → 1 ≤ r → stored P r old new ≡ xors old new
-stored-19 P r old new e h =
-    ap (λ (v : ℕ). cond (eqb r 0 || eqb v 16) new (xors old new)) e
-    ∙ ap (λ (t : Bool). cond (t || eqb 19 16) new (xors old new)) (ne-eqb r 0 (λ z. omega (arith, z)))
 
 -- two memories that agree on the blocks that are read, and in later passes on what stood there
 module _
