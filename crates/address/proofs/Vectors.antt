@@ -6,7 +6,7 @@ use Prim.Native.Nat.{ℕ}
 use lib.ListN.{getD}
 use Rattle.word.specs.Table.{table}
 use Rattle.word.specs.Word.{rotr}
-use Rattle.block.specs.Block.{mix, quarter, quarterAt, permutation, registers, rows, columns, xors, compress}
+use Rattle.block.specs.Block.{multiplyAdd, quarter, quarterAt, permutation, registers, rows, columns, xors, compress}
 use Rattle.params.specs.Limits.{i, v13, segmentLength}
 use Rattle.params.specs.declared.Configured.the-variants.{Absent}
 use Rattle.params.specs.declared.Params.{Params}
@@ -21,9 +21,9 @@ abbrev some-block : List ℕ
 some-block = addressBlock numbers 4 3 2 5
 
 pub address-block-first : getD some-block 0 0 ≡ 4884815231115915464
-unfolding table rotr mix quarter quarterAt permutation registers rows columns xors compress segmentLength addressBlock
+unfolding table rotr multiplyAdd quarter quarterAt permutation registers rows columns xors compress segmentLength addressBlock
 address-block-first = refl
 
 pub address-block-last : getD some-block 127 0 ≡ 6752838490646319505
-unfolding table rotr mix quarter quarterAt permutation registers rows columns xors compress segmentLength addressBlock
+unfolding table rotr multiplyAdd quarter quarterAt permutation registers rows columns xors compress segmentLength addressBlock
 address-block-last = refl
