@@ -1,2 +1,3 @@
+pub mod I
 pub mod Id
 pub mod Inputs
