@@ -1,0 +1,3 @@
+pub mod I
+pub mod Id
+pub mod Inputs
