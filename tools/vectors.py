@@ -1,7 +1,7 @@
 #!/usr/bin/env python3
-"""vectors.py FILE COMMAND..: runs recorded cases through the program.
+"""vectors.py FILE COUNT COMMAND..: runs recorded cases through the program.
 
-Each line of FILE is a JSON object: `input`, the case in hex, goes to COMMAND's standard input, and what it writes must be
+FILE has COUNT cases. Each line of FILE is a JSON object: `input`, the case in hex, goes to COMMAND's standard input, and what it writes must be
 `expect` and a newline. Prints how many cases passed, or the cases that did not, and then fails.
 """
 import json
@@ -19,9 +19,9 @@ def cases(name):
 
 
 def main():
-    if len(sys.argv) < 3:
+    if len(sys.argv) < 4 or not sys.argv[2].isdecimal():
         sys.exit(__doc__)
-    name, command = sys.argv[1], sys.argv[2:]
+    name, count, command = sys.argv[1], int(sys.argv[2]), sys.argv[3:]
     passed, failed = 0, []
     for number, case in enumerate(cases(name), 1):
         run = subprocess.run(command, input=bytes.fromhex(case["input"]), stdout=subprocess.PIPE, check=False)
@@ -32,8 +32,9 @@ def main():
             failed.append((number, wanted, run.stdout, run.returncode))
     for number, wanted, got, status in failed[:SHOWN]:
         print(f"{name}: case {number}: expected {wanted!r}, got {got!r}, status {status}", file=sys.stderr)
-    print(f"vectors: {passed} of {passed + len(failed)} cases of {name}")
-    sys.exit(1 if failed else 0)
+    print(f"compared: {passed} of {passed + len(failed)} cases of {name}, by {' '.join(command)}")
+    if failed or passed != count or count == 0:
+        sys.exit(f"vectors: {passed} cases passed, and {count} have to")
 
 
 main()

@@ -10,7 +10,7 @@ const LOOKED_AT: usize = 65_536;
 pub const SKIPPED: &str = "skip - -";
 
 /// The answer of a side that panicked.
-const PANICKED: &str = "panic - -";
+pub const PANICKED: &str = "panic - -";
 
 /// Word `i` of the pattern that a seed names (splitmix64); seed 0 is zeros.
 pub fn pattern(seed: u64, i: usize) -> u64 {

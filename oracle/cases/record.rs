@@ -2,12 +2,13 @@
 
 use crate::answer::{SKIPPED, Side, line};
 use crate::case::parse;
+use crate::compare::{CRATE, unsound};
 
-/// Asks a side for every recorded answer that it can give.
+/// Asks a side for every recorded answer that it can give, and there has to be one.
 pub fn replay(
     side: &dyn Side,
+    name: &str,
     lines: impl Iterator<Item = std::io::Result<String>>,
-    is_crate: bool,
 ) -> Result<(), String> {
     let (mut agreed, mut passed_over) = (0, 0);
     for text in lines {
@@ -19,13 +20,19 @@ pub fn replay(
         let (expected, by) = told.rsplit_once(' ').ok_or(format!("no record: {text}"))?;
         let case = parse(case).ok_or(format!("no case: {text}"))?;
         let answer = line(side, &case);
-        if answer == SKIPPED || is_crate && by != "crate" {
+        if let Some(what) = unsound(name, &case, &answer) {
+            return Err(format!("{text}\n  {name} {what}"));
+        }
+        if answer == SKIPPED || name == CRATE && by != CRATE {
             passed_over += 1;
         } else if answer == expected {
             agreed += 1;
         } else {
             return Err(format!("{text}\n  now: {answer}"));
         }
+    }
+    if agreed + passed_over == 0 {
+        return Err("the recorded list is empty".into());
     }
     println!("{agreed} recorded answers given again, {passed_over} not asked");
     Ok(())
