@@ -29,11 +29,11 @@ pub fn crate_means_the_same(case: &Case, by_01: &str) -> bool {
     }
 }
 
-/// Whether a side has no call for a case: there is none for a reference position but the plain copy's, and at a C
-/// host's boundary a configured length of 0 stands for absent.
+/// Whether a side has no call for a case: there is none for a reference position, a step or a finish but the plain copy's,
+/// and at a C host's boundary a configured length of 0 stands for absent.
 pub fn may_skip(name: &str, case: &Case) -> bool {
     match case {
-        Case::Position { .. } => name != PLAIN,
+        Case::Position { .. } | Case::Step { .. } | Case::Finish { .. } => name != PLAIN,
         Case::Hash(job) | Case::Fill(job) => name != PLAIN && name != CRATE && job.configured == Some(0),
         Case::Long { .. } => false,
     }

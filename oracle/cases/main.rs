@@ -8,6 +8,7 @@ mod by_plain;
 mod case;
 mod compare;
 mod generate;
+mod jobs;
 #[cfg(crate_at_hand)]
 mod positions;
 mod record;
@@ -23,7 +24,7 @@ compare-oracle answer plain|crate       cases on standard input
 compare-oracle compare [--edges E] [--random R] CASES NAME=ANSWERS NAME=ANSWERS ..
 compare-oracle program                  one input of 01's program on standard input
 compare-oracle positions [--seed S]     the crate's references against the plain copy's
-compare-oracle record hashes|positions
+compare-oracle record hashes|positions|jobs
 compare-oracle replay plain|crate       a recorded list on standard input";
 
 /// What went wrong, or that nothing did.
@@ -143,6 +144,7 @@ fn run(words: &[String]) -> Done {
         ["program"] => program(),
         #[cfg(crate_at_hand)]
         ["positions", ..] => print(positions::compare(option(words, "--seed", 1)?)?.into_iter()),
+        ["record", "jobs"] => print(record::jobs()),
         #[cfg(crate_at_hand)]
         ["record", "hashes"] => print(record::hashes(&*side("crate")?)),
         #[cfg(crate_at_hand)]
