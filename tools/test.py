@@ -86,9 +86,10 @@ BEFORE = [
 ]
 VECTORS = [sys.executable, "tools/vectors.py", "oracle/recorded/cases.jsonl", "420", "./crabuledda", "case"]
 AFTER = [
-    ("oracle", ["oracle/build", "--test"]),
     ("hosts", ["host/test"]),
+    ("oracle", ["oracle/check", "--cases", "2000"]),
     ("cases", VECTORS),
+    ("blocks", [*VECTORS, "--blocks", "56"]),
     ("compare", ["./crabuledda", "compare", "--cases", "1100", "--edges", "600", "--random", "400"]),
 ]
 
