@@ -8,7 +8,7 @@ use lib.ListN.{replicate}
 use Rattle.word.specs.Table.{table}
 use Rattle.word.specs.Word.{rotr, numberAt, wordsOf}
 use Rattle.blake2b_compression.specs.Compression.{row, sum, flips, local}
-use Rattle.blake2b.specs.Blake2b.{pad, initial, before}
+use Rattle.blake2b.specs.Blake2b.{pad, parameter, initial, before}
 use Rattle.blake2b.specs.Blake2b
 use Rattle.blake2b_long.specs.Long.{halves, pieces}
 use Rattle.block.specs.Block.{multiplyAdd, registers}
@@ -443,15 +443,15 @@ b1-7 =
     0x9df7710e492eff7e ∷ 0x4655f4bf8fc5bd59 ∷ []
 
 hash : blake2bBy quick 64 (hashInput params 32 password salt [] []) ≡ h
-unfolding h hashInput header blake2bBy chainBy before initial Rattle.blake2b.specs.Blake2b.block pad wordsOf FBy foldBy local flips mixedBy roundBy GBy turnBy sum row rotr numberAt table quick nibbles nibble pairs
+unfolding h hashInput header blake2bBy chainBy before parameter initial Rattle.blake2b.specs.Blake2b.block pad wordsOf FBy foldBy local flips mixedBy roundBy GBy turnBy sum row rotr numberAt table quick nibbles nibble pairs
 hash = refl
 
 first-0 : firstOf (longBy quick) h 0 0 ≡ b0-0
-unfolding h b0-0 firstOf longBy joinedBy pieces halves blake2bBy chainBy before initial Rattle.blake2b.specs.Blake2b.block pad wordsOf FBy foldBy local flips mixedBy roundBy GBy turnBy sum row rotr numberAt table quick nibbles nibble pairs
+unfolding h b0-0 firstOf longBy joinedBy pieces halves blake2bBy chainBy before parameter initial Rattle.blake2b.specs.Blake2b.block pad wordsOf FBy foldBy local flips mixedBy roundBy GBy turnBy sum row rotr numberAt table quick nibbles nibble pairs
 first-0 = refl
 
 first-1 : firstOf (longBy quick) h 0 1 ≡ b0-1
-unfolding h b0-1 firstOf longBy joinedBy pieces halves blake2bBy chainBy before initial Rattle.blake2b.specs.Blake2b.block pad wordsOf FBy foldBy local flips mixedBy roundBy GBy turnBy sum row rotr numberAt table quick nibbles nibble pairs
+unfolding h b0-1 firstOf longBy joinedBy pieces halves blake2bBy chainBy before parameter initial Rattle.blake2b.specs.Blake2b.block pad wordsOf FBy foldBy local flips mixedBy roundBy GBy turnBy sum row rotr numberAt table quick nibbles nibble pairs
 first-1 = refl
 
 -- mR-S is the memory after slice S of pass R; slice 0 of pass 0 has no more than the first blocks
@@ -520,7 +520,7 @@ unfolding fillAllOf fillPassOf
 all = rw (slice-0-0, slice-0-1, slice-0-2, slice-0-3, slice-1-0, slice-1-1, slice-1-2, slice-1-3)
 
 tagged : tagBy (longBy quick) (xorsBy quick) params 32 m1-3 ≡ tag
-unfolding m1-3 b1-0 b1-1 b1-2 b1-3 b1-4 b1-5 b1-6 b1-7 tagBy lastOf block segmentLength xorsBy longBy joinedBy pieces halves blake2bBy chainBy before initial Rattle.blake2b.specs.Blake2b.block pad wordsOf FBy foldBy local flips mixedBy roundBy GBy turnBy sum row rotr numberAt table quick nibbles nibble pairs
+unfolding m1-3 b1-0 b1-1 b1-2 b1-3 b1-4 b1-5 b1-6 b1-7 tagBy lastOf block segmentLength xorsBy longBy joinedBy pieces halves blake2bBy chainBy before parameter initial Rattle.blake2b.specs.Blake2b.block pad wordsOf FBy foldBy local flips mixedBy roundBy GBy turnBy sum row rotr numberAt table quick nibbles nibble pairs
 tagged = refl
 
 pub argon2d-two-passes : argon2 params 32 password salt [] [] ≡ tag

@@ -8,7 +8,7 @@ use lib.ListN.{replicate}
 use Rattle.word.specs.Table.{table}
 use Rattle.word.specs.Word.{rotr, numberAt, wordsOf}
 use Rattle.blake2b_compression.specs.Compression.{row, sum, flips, local}
-use Rattle.blake2b.specs.Blake2b.{pad, initial, before}
+use Rattle.blake2b.specs.Blake2b.{pad, parameter, initial, before}
 use Rattle.blake2b.specs.Blake2b
 use Rattle.blake2b_long.specs.Long.{halves, pieces}
 use Rattle.block.specs.Block.{multiplyAdd, registers}
@@ -55,39 +55,39 @@ h =
     0x11 ∷ 0x2f ∷ 0xfa ∷ 0x11 ∷ 0x43 ∷ 0x43 ∷ 0x70 ∷ 0xa1 ∷ 0xe9 ∷ 0x97 ∷ []
 
 hash : blake2bBy quick 64 (hashInput params 32 password salt secret associated) ≡ h
-unfolding h hashInput header blake2bBy chainBy before initial Rattle.blake2b.specs.Blake2b.block pad wordsOf FBy foldBy local flips mixedBy roundBy GBy turnBy sum row rotr numberAt table quick nibbles nibble pairs
+unfolding h hashInput header blake2bBy chainBy before parameter initial Rattle.blake2b.specs.Blake2b.block pad wordsOf FBy foldBy local flips mixedBy roundBy GBy turnBy sum row rotr numberAt table quick nibbles nibble pairs
 hash = refl
 
 first-0-0 : firstOf (longBy quick) h 0 0 ≡ b0-0-0
-unfolding h b0-0-0 firstOf longBy joinedBy pieces halves blake2bBy chainBy before initial Rattle.blake2b.specs.Blake2b.block pad wordsOf FBy foldBy local flips mixedBy roundBy GBy turnBy sum row rotr numberAt table quick nibbles nibble pairs
+unfolding h b0-0-0 firstOf longBy joinedBy pieces halves blake2bBy chainBy before parameter initial Rattle.blake2b.specs.Blake2b.block pad wordsOf FBy foldBy local flips mixedBy roundBy GBy turnBy sum row rotr numberAt table quick nibbles nibble pairs
 first-0-0 = refl
 
 first-0-1 : firstOf (longBy quick) h 0 1 ≡ b0-0-1
-unfolding h b0-0-1 firstOf longBy joinedBy pieces halves blake2bBy chainBy before initial Rattle.blake2b.specs.Blake2b.block pad wordsOf FBy foldBy local flips mixedBy roundBy GBy turnBy sum row rotr numberAt table quick nibbles nibble pairs
+unfolding h b0-0-1 firstOf longBy joinedBy pieces halves blake2bBy chainBy before parameter initial Rattle.blake2b.specs.Blake2b.block pad wordsOf FBy foldBy local flips mixedBy roundBy GBy turnBy sum row rotr numberAt table quick nibbles nibble pairs
 first-0-1 = refl
 
 first-1-0 : firstOf (longBy quick) h 1 0 ≡ b0-1-0
-unfolding h b0-1-0 firstOf longBy joinedBy pieces halves blake2bBy chainBy before initial Rattle.blake2b.specs.Blake2b.block pad wordsOf FBy foldBy local flips mixedBy roundBy GBy turnBy sum row rotr numberAt table quick nibbles nibble pairs
+unfolding h b0-1-0 firstOf longBy joinedBy pieces halves blake2bBy chainBy before parameter initial Rattle.blake2b.specs.Blake2b.block pad wordsOf FBy foldBy local flips mixedBy roundBy GBy turnBy sum row rotr numberAt table quick nibbles nibble pairs
 first-1-0 = refl
 
 first-1-1 : firstOf (longBy quick) h 1 1 ≡ b0-1-1
-unfolding h b0-1-1 firstOf longBy joinedBy pieces halves blake2bBy chainBy before initial Rattle.blake2b.specs.Blake2b.block pad wordsOf FBy foldBy local flips mixedBy roundBy GBy turnBy sum row rotr numberAt table quick nibbles nibble pairs
+unfolding h b0-1-1 firstOf longBy joinedBy pieces halves blake2bBy chainBy before parameter initial Rattle.blake2b.specs.Blake2b.block pad wordsOf FBy foldBy local flips mixedBy roundBy GBy turnBy sum row rotr numberAt table quick nibbles nibble pairs
 first-1-1 = refl
 
 first-2-0 : firstOf (longBy quick) h 2 0 ≡ b0-2-0
-unfolding h b0-2-0 firstOf longBy joinedBy pieces halves blake2bBy chainBy before initial Rattle.blake2b.specs.Blake2b.block pad wordsOf FBy foldBy local flips mixedBy roundBy GBy turnBy sum row rotr numberAt table quick nibbles nibble pairs
+unfolding h b0-2-0 firstOf longBy joinedBy pieces halves blake2bBy chainBy before parameter initial Rattle.blake2b.specs.Blake2b.block pad wordsOf FBy foldBy local flips mixedBy roundBy GBy turnBy sum row rotr numberAt table quick nibbles nibble pairs
 first-2-0 = refl
 
 first-2-1 : firstOf (longBy quick) h 2 1 ≡ b0-2-1
-unfolding h b0-2-1 firstOf longBy joinedBy pieces halves blake2bBy chainBy before initial Rattle.blake2b.specs.Blake2b.block pad wordsOf FBy foldBy local flips mixedBy roundBy GBy turnBy sum row rotr numberAt table quick nibbles nibble pairs
+unfolding h b0-2-1 firstOf longBy joinedBy pieces halves blake2bBy chainBy before parameter initial Rattle.blake2b.specs.Blake2b.block pad wordsOf FBy foldBy local flips mixedBy roundBy GBy turnBy sum row rotr numberAt table quick nibbles nibble pairs
 first-2-1 = refl
 
 first-3-0 : firstOf (longBy quick) h 3 0 ≡ b0-3-0
-unfolding h b0-3-0 firstOf longBy joinedBy pieces halves blake2bBy chainBy before initial Rattle.blake2b.specs.Blake2b.block pad wordsOf FBy foldBy local flips mixedBy roundBy GBy turnBy sum row rotr numberAt table quick nibbles nibble pairs
+unfolding h b0-3-0 firstOf longBy joinedBy pieces halves blake2bBy chainBy before parameter initial Rattle.blake2b.specs.Blake2b.block pad wordsOf FBy foldBy local flips mixedBy roundBy GBy turnBy sum row rotr numberAt table quick nibbles nibble pairs
 first-3-0 = refl
 
 first-3-1 : firstOf (longBy quick) h 3 1 ≡ b0-3-1
-unfolding h b0-3-1 firstOf longBy joinedBy pieces halves blake2bBy chainBy before initial Rattle.blake2b.specs.Blake2b.block pad wordsOf FBy foldBy local flips mixedBy roundBy GBy turnBy sum row rotr numberAt table quick nibbles nibble pairs
+unfolding h b0-3-1 firstOf longBy joinedBy pieces halves blake2bBy chainBy before parameter initial Rattle.blake2b.specs.Blake2b.block pad wordsOf FBy foldBy local flips mixedBy roundBy GBy turnBy sum row rotr numberAt table quick nibbles nibble pairs
 first-3-1 = refl
 
 -- mR-S is the memory after slice S of pass R; slice 0 of pass 0 has no more than the first blocks
@@ -274,7 +274,7 @@ unfolding fillAllOf fillPassOf
 all = rw (slice-0-0, slice-0-1, slice-0-2, slice-0-3, slice-1-0, slice-1-1, slice-1-2, slice-1-3, slice-2-0, slice-2-1, slice-2-2, slice-2-3)
 
 tagged : tagBy (longBy quick) (xorsBy quick) params 32 m2-3 ≡ tag
-unfolding m2-3 b2-0-0 b2-0-1 b2-0-2 b2-0-3 b2-0-4 b2-0-5 b2-0-6 b2-0-7 b2-1-0 b2-1-1 b2-1-2 b2-1-3 b2-1-4 b2-1-5 b2-1-6 b2-1-7 b2-2-0 b2-2-1 b2-2-2 b2-2-3 b2-2-4 b2-2-5 b2-2-6 b2-2-7 b2-3-0 b2-3-1 b2-3-2 b2-3-3 b2-3-4 b2-3-5 b2-3-6 b2-3-7 tagBy lastOf block segmentLength xorsBy longBy joinedBy pieces halves blake2bBy chainBy before initial Rattle.blake2b.specs.Blake2b.block pad wordsOf FBy foldBy local flips mixedBy roundBy GBy turnBy sum row rotr numberAt table quick nibbles nibble pairs
+unfolding m2-3 b2-0-0 b2-0-1 b2-0-2 b2-0-3 b2-0-4 b2-0-5 b2-0-6 b2-0-7 b2-1-0 b2-1-1 b2-1-2 b2-1-3 b2-1-4 b2-1-5 b2-1-6 b2-1-7 b2-2-0 b2-2-1 b2-2-2 b2-2-3 b2-2-4 b2-2-5 b2-2-6 b2-2-7 b2-3-0 b2-3-1 b2-3-2 b2-3-3 b2-3-4 b2-3-5 b2-3-6 b2-3-7 tagBy lastOf block segmentLength xorsBy longBy joinedBy pieces halves blake2bBy chainBy before parameter initial Rattle.blake2b.specs.Blake2b.block pad wordsOf FBy foldBy local flips mixedBy roundBy GBy turnBy sum row rotr numberAt table quick nibbles nibble pairs
 tagged = refl
 
 pub rfc9106-argon2id : argon2 params 32 password salt secret associated ≡ tag

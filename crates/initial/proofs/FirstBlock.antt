@@ -5,7 +5,7 @@ use mathlib.Core.Path.{_≡_, refl}
 use Prim.Native.Nat.{ℕ}
 use lib.ListN.{getD}
 use Rattle.blake2b_compression.specs.Compression.{row, sum, turn, G, round, mixed, flips, local, fold, F}
-use Rattle.blake2b.specs.Blake2b.{pad, block, initial, chain, before, final, blake2b}
+use Rattle.blake2b.specs.Blake2b.{pad, block, parameter, initial, chain, before, final, blake2b}
 use Rattle.blake2b_long.specs.Long.{halves, pieces, joined, long}
 use Rattle.word.specs.Table.{table}
 use Rattle.word.specs.Word.{rotr, numberAt, wordsOf}
@@ -19,9 +19,9 @@ hash =
     ∷ 148 ∷ 223 ∷ 66 ∷ 26 ∷ 93 ∷ 161 ∷ 17 ∷ 47 ∷ 250 ∷ 17 ∷ 67 ∷ 67 ∷ 112 ∷ 161 ∷ 233 ∷ 151 ∷ []
 
 pub first-word : getD (firstWords hash 2 1) 0 0 ≡ 7819741966855469844
-unfolding firstWords long joined pieces halves blake2b final chain before initial block pad wordsOf F fold local flips mixed round G turn sum row rotr numberAt table
+unfolding firstWords long joined pieces halves blake2b final chain before parameter initial block pad wordsOf F fold local flips mixed round G turn sum row rotr numberAt table
 first-word = refl
 
 pub fifth-word : getD (firstWords hash 2 1) 4 0 ≡ 7227846027442399104
-unfolding firstWords long joined pieces halves blake2b final chain before initial block pad wordsOf F fold local flips mixed round G turn sum row rotr numberAt table
+unfolding firstWords long joined pieces halves blake2b final chain before parameter initial block pad wordsOf F fold local flips mixed round G turn sum row rotr numberAt table
 fifth-word = refl
