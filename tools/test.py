@@ -2,9 +2,11 @@
 """Runs every check of the repository: the README's test command.
 
 The parts run one after the other; each line that a part prints is shown with the time since the start. The first part that
-fails ends the run with its status. The last line of `rt ci`, its count, is kept back and printed as the last line of all.
+fails ends the run with its status. What each part says that it compared ("compared: ..") is said again at the end, and a part
+that compares has to say it. The last line of `rt ci`, its count, is kept back and printed as the last line of all.
 """
 import queue
+import re
 import subprocess
 import sys
 import threading
@@ -42,9 +44,9 @@ def lines_of(command):
 
 
 def run(name, command):
-    """Runs one part and hands back its last line, which is not shown; ends the whole run where the part fails."""
+    """Runs one part and hands back its lines, the last of which is not shown; ends the whole run where the part fails."""
     say(f"{name}: {' '.join(command)}")
-    began, last = time.monotonic(), None
+    began, last, lines = time.monotonic(), None, []
     for item in lines_of(command):
         passed = int(time.monotonic() - began)
         if item is None:
@@ -54,38 +56,56 @@ def run(name, command):
             say(last)
         if isinstance(item, str):
             last = item
+            lines.append(item)
         elif item != 0:
             say(f"{name}: FAILED with status {item}, {passed} s")
             sys.exit(item)
-    return last
+    return lines
 
 
 def part(name, command):
-    """Runs one part, and shows its last line too."""
-    last = run(name, command)
-    if last is not None:
-        say(last)
+    """Runs one part, and shows its last line too, with the seconds it took; hands back what it says that it compared."""
+    began = time.monotonic()
+    lines = run(name, command)
+    say(f"{lines[-1] if lines else name} ({int(time.monotonic() - began)} s)")
+    return [line.removeprefix("compared: ") for line in lines if line.startswith("compared: ")]
+
+
+def compared(name, command):
+    """Runs a part that compares: it has to say what."""
+    said = part(name, command)
+    if not said:
+        say(f"{name}: FAILED, it does not say what it compared")
+        sys.exit(1)
+    return said
 
 
 BEFORE = [
     ("promises", [sys.executable, "tools/promises.py"]),
     ("layout", ["rt", "fmt", "--check"]),
 ]
+VECTORS = [sys.executable, "tools/vectors.py", "oracle/recorded/cases.jsonl", "420", "./crabuledda", "case"]
 AFTER = [
-    ("oracle", ["oracle/build", "--test"]),
     ("hosts", ["host/test"]),
-    ("cases", [sys.executable, "tools/vectors.py", "oracle/recorded/cases.jsonl", "./crabuledda", "case"]),
-    ("compare", ["./crabuledda", "compare", "--cases", "600"]),
+    ("oracle", ["oracle/check", "--cases", "2000"]),
+    ("cases", VECTORS),
+    ("blocks", [*VECTORS, "--blocks", "56"]),
+    ("compare", ["./crabuledda", "compare", "--cases", "1100", "--edges", "600", "--random", "400"]),
 ]
 
 
 def main():
     for name, command in BEFORE:
         part(name, command)
-    count = run("proofs", ["rt", "ci"])
-    for name, command in AFTER:
-        part(name, command)
-    print(count, flush=True)
+    count = run("proofs", ["rt", "ci"])[-1:]
+    if not (count and re.fullmatch(r"[1-9]\d* passed, 0 failed", count[0])):
+        say(f"proofs: FAILED, rt ci ends with {count} and not with its count")
+        sys.exit(1)
+    said = [f"{name}: {line}" for name, command in AFTER for line in compared(name, command)]
+    say("what was compared:")
+    for line in said:
+        say(f"  {line}")
+    print(count[0], flush=True)
 
 
 if __name__ == "__main__":

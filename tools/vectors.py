@@ -1,12 +1,15 @@
 #!/usr/bin/env python3
-"""vectors.py FILE COMMAND..: runs recorded cases through the program.
+"""vectors.py FILE COUNT COMMAND..: runs recorded cases through the program.
 
-Each line of FILE is a JSON object: `input`, the case in hex, goes to COMMAND's standard input, and what it writes must be
-`expect` and a newline. Prints how many cases passed, or the cases that did not, and then fails.
+FILE has COUNT cases. Each line of FILE is a JSON object: `input`, the case in hex, goes to COMMAND's standard input, and what it writes must be
+`expect` and a newline. The first case runs by itself, since it may build what the others run, and these as many at a time as
+there are processors. Prints how many cases passed, or the cases that did not, and then fails.
 """
 import json
+import os
 import subprocess
 import sys
+from concurrent.futures import ThreadPoolExecutor
 
 SHOWN = 10
 
@@ -18,22 +21,36 @@ def cases(name):
                 yield json.loads(line)
 
 
+def written(command, case):
+    """What the command writes for a case, and its status."""
+    run = subprocess.run(command, input=bytes.fromhex(case["input"]), stdout=subprocess.PIPE, check=False)
+    return run.stdout, run.returncode
+
+
+def all_written(command, given):
+    """What it writes for each of the cases, in their order."""
+    first = [written(command, case) for case in given[:1]]
+    with ThreadPoolExecutor(max_workers=os.cpu_count()) as pool:
+        return first + list(pool.map(lambda case: written(command, case), given[1:]))
+
+
 def main():
-    if len(sys.argv) < 3:
+    if len(sys.argv) < 4 or not sys.argv[2].isdecimal():
         sys.exit(__doc__)
-    name, command = sys.argv[1], sys.argv[2:]
+    name, count, command = sys.argv[1], int(sys.argv[2]), sys.argv[3:]
     passed, failed = 0, []
-    for number, case in enumerate(cases(name), 1):
-        run = subprocess.run(command, input=bytes.fromhex(case["input"]), stdout=subprocess.PIPE, check=False)
+    given = list(cases(name))
+    for number, (case, (got, status)) in enumerate(zip(given, all_written(command, given)), 1):
         wanted = case["expect"].encode() + b"\n"
-        if run.returncode == 0 and run.stdout == wanted:
+        if status == 0 and got == wanted:
             passed += 1
         else:
-            failed.append((number, wanted, run.stdout, run.returncode))
+            failed.append((number, wanted, got, status))
     for number, wanted, got, status in failed[:SHOWN]:
         print(f"{name}: case {number}: expected {wanted!r}, got {got!r}, status {status}", file=sys.stderr)
-    print(f"vectors: {passed} of {passed + len(failed)} cases of {name}")
-    sys.exit(1 if failed else 0)
+    print(f"compared: {passed} of {passed + len(failed)} cases of {name}, by {' '.join(command)}")
+    if failed or passed != count or count == 0:
+        sys.exit(f"vectors: {passed} cases passed, and {count} have to")
 
 
 main()

@@ -1,6 +1,6 @@
 //! What a call left behind, and its line in the protocol.
 
-use crate::case::{Bytes, Case, Job, hex, zeros};
+use crate::case::{Bytes, Case, Job, commas, hex, zeros};
 use plain::{Inputs, Reference, blake2b_long};
 
 /// The longest output that is filled with the pattern before the call and looked at after a refusal.
@@ -10,7 +10,7 @@ const LOOKED_AT: usize = 65_536;
 pub const SKIPPED: &str = "skip - -";
 
 /// The answer of a side that panicked.
-const PANICKED: &str = "panic - -";
+pub const PANICKED: &str = "panic - -";
 
 /// Word `i` of the pattern that a seed names (splitmix64); seed 0 is zeros.
 pub fn pattern(seed: u64, i: usize) -> u64 {
@@ -60,6 +60,35 @@ pub trait Side {
     fn long(&self, input: &[u8], out: &mut [u8]) -> u32;
     /// The reference position, where it can be asked for one alone.
     fn position(&self, case: &Case) -> Option<Reference>;
+    /// A step, where it has one.
+    fn step(&self, _: &plain::Job, _: &mut [u64], _: u32) -> Option<(u32, plain::Job)> {
+        None
+    }
+    /// A finish, where it has one.
+    fn finish(&self, _: &plain::Job, _: &[u64], _: &mut [u8]) -> Option<u32> {
+        None
+    }
+}
+
+/// Words that hold a pattern.
+fn lent_words(count: usize, seed: u64) -> Vec<u64> {
+    (0..count).map(|i| pattern(seed, i)).collect()
+}
+
+/// A step's answer, the job that it hands back, and the words.
+fn step_line(side: &dyn Side, job: &plain::Job, words: usize, seed: u64, lane: u32) -> Option<String> {
+    let mut words = lent_words(words, seed);
+    let (answer, next) = side.step(job, &mut words, lane)?;
+    assert_eq!((next.params, next.tag), (job.params, job.tag));
+    let job = format!("{},{},{}", next.pass, next.slice, commas(&next.positions));
+    Some(format!("{answer} {job} {}", digest_field(&words)))
+}
+
+/// A finish's answer, the output, and the words.
+fn finish_line(side: &dyn Side, job: &plain::Job, words: usize, seed: u64, length: usize) -> Option<String> {
+    let (words, mut out) = (lent_words(words, seed), lent_output(length, seed)?);
+    let answer = side.finish(job, &words, &mut out)?;
+    Some(format!("{answer} {} {}", output_field(answer, &out, seed), digest_field(&words)))
 }
 
 /// Lends memory, output and inputs for a job, calls, and tells what is left; none where they cannot be had.
@@ -68,7 +97,7 @@ fn job_line(side: &dyn Side, job: &Job, whole: bool) -> Option<String> {
     let (password, salt) = (had(&job.password)?, had(&job.salt)?);
     let (secret, data) = (had(&job.secret)?, had(&job.data)?);
     let inputs = Inputs { password: &password, salt: &salt, secret: &secret, data: &data };
-    let mut words: Vec<u64> = (0..job.words).map(|i| pattern(job.seed, i)).collect();
+    let mut words = lent_words(job.words, job.seed);
     let (answer, output) = if whole {
         let mut out = lent_output(job.tag, job.seed)?;
         let answer = side.hash(job, &inputs, &mut words, &mut out);
@@ -102,5 +131,7 @@ fn answered(side: &dyn Side, case: &Case) -> Option<String> {
         Case::Position { .. } => {
             side.position(case).map(|found| format!("{} {} {}", found.answer, found.lane, found.block))
         }
+        Case::Step { job, words, seed, lane } => step_line(side, job, *words, *seed, *lane),
+        Case::Finish { job, words, seed, length } => finish_line(side, job, *words, *seed, *length),
     }
 }

@@ -25,4 +25,12 @@ impl Side for Plain {
             Params { algorithm: Params::D, version: Params::RFC, memory, passes, lanes, configured: None };
         Some(plain::reference_position(&params, place, word))
     }
+
+    fn step(&self, job: &plain::Job, words: &mut [u64], lane: u32) -> Option<(u32, plain::Job)> {
+        Some(plain::step(job, words, lane))
+    }
+
+    fn finish(&self, job: &plain::Job, words: &[u64], out: &mut [u8]) -> Option<u32> {
+        Some(plain::finish(job, words, out))
+    }
 }

@@ -1,6 +1,6 @@
 //! A case, and its line in the protocol that README.md gives.
 
-use plain::{BLOCK_WORDS, Params, Place};
+use plain::{BLOCK_WORDS, POSITIONS, Params, Place};
 use std::fmt;
 
 /// Bytes of a case: told in hex, or so many zeros.
@@ -80,6 +80,8 @@ pub enum Case {
     Fill(Job),
     Long { length: usize, seed: u64, input: Bytes },
     Position { lanes: u32, memory: u32, passes: u32, place: Place, word: u64 },
+    Step { job: plain::Job, words: usize, seed: u64, lane: u32 },
+    Finish { job: plain::Job, words: usize, seed: u64, length: usize },
 }
 
 impl fmt::Display for Bytes {
@@ -91,14 +93,30 @@ impl fmt::Display for Bytes {
     }
 }
 
+/// The six numbers of a job or of parameters, each before a space.
+fn write_params(f: &mut fmt::Formatter<'_>, params: &Params) -> fmt::Result {
+    write!(f, "{} {} {} ", params.algorithm, params.version, params.memory)?;
+    write!(f, "{} {} ", params.passes, params.lanes)?;
+    match params.configured {
+        Some(length) => write!(f, "{length} "),
+        None => f.write_str("- "),
+    }
+}
+
+/// Numbers with a comma between each two.
+pub fn commas(numbers: &[u32]) -> String {
+    numbers.iter().map(u32::to_string).collect::<Vec<_>>().join(",")
+}
+
+/// A job of turns as far as the words that are lent it.
+fn write_turns(f: &mut fmt::Formatter<'_>, job: &plain::Job, words: usize, seed: u64) -> fmt::Result {
+    write_params(f, &job.params)?;
+    write!(f, "{} {} {} {} {words} {seed}", job.tag, job.pass, job.slice, commas(&job.positions))
+}
+
 impl fmt::Display for Job {
     fn fmt(&self, f: &mut fmt::Formatter<'_>) -> fmt::Result {
-        write!(f, "{} {} {} ", self.algorithm, self.version, self.memory)?;
-        write!(f, "{} {} ", self.passes, self.lanes)?;
-        match self.configured {
-            Some(length) => write!(f, "{length} ")?,
-            None => f.write_str("- ")?,
-        }
+        write_params(f, &self.params())?;
         write!(f, "{} {} {} ", self.tag, self.words, self.seed)?;
         write!(f, "{} {} {} {}", self.password, self.salt, self.secret, self.data)
     }
@@ -113,6 +131,16 @@ impl fmt::Display for Case {
             Case::Position { lanes, memory, passes, place, word } => {
                 write!(f, "position {lanes} {memory} {passes} {} {} ", place.pass, place.slice)?;
                 write!(f, "{} {} {word}", place.lane, place.block)
+            }
+            Case::Step { job, words, seed, lane } => {
+                f.write_str("step ")?;
+                write_turns(f, job, *words, *seed)?;
+                write!(f, " {lane}")
+            }
+            Case::Finish { job, words, seed, length } => {
+                f.write_str("finish ")?;
+                write_turns(f, job, *words, *seed)?;
+                write!(f, " {length}")
             }
         }
     }
@@ -156,14 +184,41 @@ impl Fields<'_> {
         bytes(self.0.next()?)
     }
 
-    fn job(&mut self) -> Option<Job> {
-        Some(Job {
+    fn params(&mut self) -> Option<Params> {
+        Some(Params {
             algorithm: self.number()?,
             version: self.number()?,
             memory: self.number()?,
             passes: self.number()?,
             lanes: self.number()?,
             configured: self.configured()?,
+        })
+    }
+
+    fn positions(&mut self) -> Option<[u32; POSITIONS]> {
+        let told: Option<Vec<u32>> = self.0.next()?.split(',').map(|number| number.parse().ok()).collect();
+        told?.try_into().ok()
+    }
+
+    fn turns(&mut self) -> Option<plain::Job> {
+        Some(plain::Job {
+            params: self.params()?,
+            tag: self.number()?,
+            pass: self.number()?,
+            slice: self.number()?,
+            positions: self.positions()?,
+        })
+    }
+
+    fn job(&mut self) -> Option<Job> {
+        let Params { algorithm, version, memory, passes, lanes, configured } = self.params()?;
+        Some(Job {
+            algorithm,
+            version,
+            memory,
+            passes,
+            lanes,
+            configured,
             tag: self.number()?,
             words: self.number()?,
             seed: self.number()?,
@@ -193,6 +248,14 @@ pub fn parse(line: &str) -> Option<Case> {
             Case::Long { length, seed, input: fields.bytes()? }
         }
         "position" => fields.position()?,
+        "step" => {
+            let (job, words) = (fields.turns()?, fields.number()?);
+            Case::Step { job, words, seed: fields.number()?, lane: fields.number()? }
+        }
+        "finish" => {
+            let (job, words) = (fields.turns()?, fields.number()?);
+            Case::Finish { job, words, seed: fields.number()?, length: fields.number()? }
+        }
         _ => return None,
     };
     fields.0.next().is_none().then_some(case)

@@ -272,6 +272,24 @@ fn edges() -> Vec<Case> {
     cases
 }
 
+/// What goes deep, and is among the cases however few they are: 6 passes, 300 passes, and Argon2i with a segment that takes
+/// more than 64 address blocks.
+fn deep() -> Vec<Case> {
+    let mut jobs = Vec::new();
+    for algorithm in 0..3 {
+        for version in [Params::OVERWRITING, Params::RFC] {
+            jobs.push(Job { algorithm, version, passes: 6, memory: 37, lanes: 3, ..smallest() });
+        }
+        jobs.push(Job { algorithm, passes: 300, ..smallest() });
+    }
+    jobs.push(Job { version: Params::OVERWRITING, passes: 300, ..smallest() });
+    jobs.push(Job { passes: 300, memory: 19, lanes: 2, ..smallest() });
+    let long = Job { algorithm: Params::I, memory: 4 * 8_300, ..smallest() };
+    let fillings: Vec<Case> = fillings(lent(jobs.iter().step_by(4).cloned())).collect();
+    jobs.push(long);
+    lent(jobs).into_iter().map(Case::Hash).chain(fillings).collect()
+}
+
 /// What is recorded for good: boundaries, tags, passes, segments, some lanes and inputs, some fillings.
 #[cfg(crate_at_hand)]
 pub fn recorded() -> Vec<Case> {
@@ -338,13 +356,21 @@ fn drawn(random: &mut Random) -> Case {
     call(job)
 }
 
-/// So many cases: the edges, evenly fewer of them where they are more, then random ones from the seed.
-pub fn cases(count: usize, seed: u64) -> impl Iterator<Item = Case> {
-    let edges = edges();
-    let taken = count.min(edges.len());
+/// How many of the cases are not random.
+pub fn edges_among(count: usize, most: usize) -> usize {
+    let (deep, edges) = (deep().len(), edges().len());
+    count.min(deep + most.saturating_sub(deep).min(edges))
+}
+
+/// So many cases: the deep ones, the edges, evenly fewer of them where they are more than the most, then random ones from the
+/// seed. The most counts the deep ones too.
+pub fn cases(count: usize, most: usize, seed: u64) -> impl Iterator<Item = Case> {
+    let (deep, edges) = (deep(), edges());
+    let taken = edges_among(count, most).saturating_sub(deep.len());
     let mut random = Random::new(seed);
     let drawn = std::iter::repeat_with(move || drawn(&mut random));
-    (0..taken).map(move |i| edges[i * edges.len() / taken].clone()).chain(drawn).take(count)
+    let even = (0..taken).map(move |i| edges[i * edges.len() / taken].clone());
+    deep.into_iter().chain(even).chain(drawn).take(count)
 }
 
 /// Accepted jobs at the upper ends, which take gigabytes or long: 2^32-1 bytes of input, 2^20 blocks.

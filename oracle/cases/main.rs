@@ -8,6 +8,7 @@ mod by_plain;
 mod case;
 mod compare;
 mod generate;
+mod jobs;
 #[cfg(crate_at_hand)]
 mod positions;
 mod record;
@@ -16,14 +17,14 @@ use answer::Side;
 use std::io::{BufRead, BufWriter, Read, Write, stdin, stdout};
 use std::process::ExitCode;
 
-const USAGE: &str = "compare-oracle generate [--cases N] [--seed S]
+const USAGE: &str = "compare-oracle generate [--cases N] [--edges E] [--seed S]
 compare-oracle large
 compare-oracle sides                    the sides that were built
 compare-oracle answer plain|crate       cases on standard input
-compare-oracle compare CASES NAME=ANSWERS NAME=ANSWERS ..
+compare-oracle compare [--edges E] [--random R] CASES NAME=ANSWERS NAME=ANSWERS ..
 compare-oracle program                  one input of 01's program on standard input
 compare-oracle positions [--seed S]     the crate's references against the plain copy's
-compare-oracle record hashes|positions
+compare-oracle record hashes|positions|jobs
 compare-oracle replay plain|crate       a recorded list on standard input";
 
 /// What went wrong, or that nothing did.
@@ -48,6 +49,13 @@ fn option(words: &[String], name: &str, otherwise: u64) -> Result<u64, String> {
             number.ok_or(format!("{name} wants a number"))
         }
     }
+}
+
+/// The words that are neither options nor their numbers.
+fn without_options(words: &[String]) -> Vec<&str> {
+    let named = |at: usize| words[at].starts_with("--");
+    let kept = (0..words.len()).filter(|at| !named(*at) && !(*at > 0 && named(*at - 1)));
+    kept.map(|at| words[at].as_str()).collect()
 }
 
 /// Writes lines to standard output.
@@ -76,9 +84,20 @@ fn answer_all(side: &dyn Side) -> Done {
     out.flush().map_err(|error| error.to_string())
 }
 
-/// Compares the answers of NAME=FILE words on the cases of a file.
-fn compare_files(cases: &str, words: &[String]) -> Done {
-    let cases = lines(cases)?;
+/// Compares the answers of NAME=FILE words on the cases of a file, the first word.
+fn compare_files(words: &[String]) -> Done {
+    let (most, random) =
+        (option(words, "--edges", u64::MAX)? as usize, option(words, "--random", 0)? as usize);
+    let words = without_options(words);
+    let [path, words @ ..] = &words[..] else { return Err(USAGE.into()) };
+    let cases = lines(path)?;
+    if cases.is_empty() || words.len() < 2 {
+        return Err(format!(
+            "{path} has {} cases for {} sides: nothing is compared",
+            cases.len(),
+            words.len()
+        ));
+    }
     let mut sides = Vec::new();
     for word in words {
         let (name, path) = word.split_once('=').ok_or(format!("{word} is not NAME=ANSWERS"))?;
@@ -88,7 +107,12 @@ fn compare_files(cases: &str, words: &[String]) -> Done {
         }
         sides.push(compare::Answers { name: name.into(), lines });
     }
-    if compare::all(&cases, &sides) { Ok(()) } else { Err("they differ".into()) }
+    let wanted = compare::Wanted { edges: generate::edges_among(cases.len(), most), random };
+    if compare::all(&cases, &wanted, &sides) {
+        Ok(())
+    } else {
+        Err("this is not a comparison that holds".into())
+    }
 }
 
 /// Writes the program's line for the input that stands on standard input.
@@ -105,22 +129,27 @@ fn run(words: &[String]) -> Done {
     match named[..] {
         ["generate", ..] => {
             let (count, seed) = (option(words, "--cases", 20_000)?, option(words, "--seed", 1)?);
-            print(generate::cases(count as usize, seed).map(|case| case.to_string()))
+            let edges = option(words, "--edges", count)?;
+            print(generate::cases(count as usize, edges as usize, seed).map(|case| case.to_string()))
         }
         ["large"] => print(generate::large().iter().map(ToString::to_string)),
-        ["sides"] => {
-            print(["plain", compare::CRATE].iter().filter(|name| side(name).is_ok()).map(ToString::to_string))
-        }
+        ["sides"] => print(
+            [compare::PLAIN, compare::CRATE]
+                .iter()
+                .filter(|name| side(name).is_ok())
+                .map(ToString::to_string),
+        ),
         ["answer", name] => answer_all(&*side(name)?),
-        ["compare", cases, _, _, ..] => compare_files(cases, &words[2..]),
+        ["compare", ..] => compare_files(&words[1..]),
         ["program"] => program(),
         #[cfg(crate_at_hand)]
         ["positions", ..] => print(positions::compare(option(words, "--seed", 1)?)?.into_iter()),
+        ["record", "jobs"] => print(record::jobs()),
         #[cfg(crate_at_hand)]
         ["record", "hashes"] => print(record::hashes(&*side("crate")?)),
         #[cfg(crate_at_hand)]
         ["record", "positions"] => print(record::positions()),
-        ["replay", name] => record::replay(&*side(name)?, stdin().lock().lines(), name == compare::CRATE),
+        ["replay", name] => record::replay(&*side(name)?, name, stdin().lock().lines()),
         _ => Err(USAGE.into()),
     }
 }

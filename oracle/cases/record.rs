@@ -1,13 +1,16 @@
 //! The recorded lists: lines `CASE = ANSWER BY`, BY `crate` or, where the crate cannot say, `01`.
 
 use crate::answer::{SKIPPED, Side, line};
+use crate::by_plain::Plain;
 use crate::case::parse;
+use crate::compare::{CRATE, unsound};
+use crate::jobs;
 
-/// Asks a side for every recorded answer that it can give.
+/// Asks a side for every recorded answer that it can give, and there has to be one.
 pub fn replay(
     side: &dyn Side,
+    name: &str,
     lines: impl Iterator<Item = std::io::Result<String>>,
-    is_crate: bool,
 ) -> Result<(), String> {
     let (mut agreed, mut passed_over) = (0, 0);
     for text in lines {
@@ -19,7 +22,10 @@ pub fn replay(
         let (expected, by) = told.rsplit_once(' ').ok_or(format!("no record: {text}"))?;
         let case = parse(case).ok_or(format!("no case: {text}"))?;
         let answer = line(side, &case);
-        if answer == SKIPPED || is_crate && by != "crate" {
+        if let Some(what) = unsound(name, &case, &answer) {
+            return Err(format!("{text}\n  {name} {what}"));
+        }
+        if answer == SKIPPED || name == CRATE && by != CRATE {
             passed_over += 1;
         } else if answer == expected {
             agreed += 1;
@@ -27,8 +33,21 @@ pub fn replay(
             return Err(format!("{text}\n  now: {answer}"));
         }
     }
+    if agreed == 0 {
+        return Err(format!("no recorded answer was given again, {passed_over} not asked"));
+    }
     println!("{agreed} recorded answers given again, {passed_over} not asked");
     Ok(())
+}
+
+/// The first line of a list.
+const HEAD: &str = "# Recorded by `oracle/record`; the format is oracle/README.md's.";
+
+/// The list of steps and finishes, for which 01 is the oracle.
+pub fn jobs() -> impl Iterator<Item = String> {
+    let head = [HEAD, "# CASE = ANSWER BY"].map(String::from);
+    let cases = jobs::cases().into_iter().map(|case| format!("{case} = {} 01", line(&Plain, &case)));
+    head.into_iter().chain(cases)
 }
 
 #[cfg(crate_at_hand)]
@@ -38,7 +57,6 @@ pub use made::{hashes, positions};
 #[cfg(crate_at_hand)]
 mod made {
     use super::*;
-    use crate::by_plain::Plain;
     use crate::case::{Bytes, Case, Job};
     use crate::compare::crate_means_the_same;
     use crate::generate::{self, Random};
@@ -62,7 +80,7 @@ mod made {
                     && [password, salt, secret, data].into_iter().all(short)
             }
             Case::Long { length, input, .. } => *length <= MOST_BYTES && short(input),
-            Case::Position { .. } => true,
+            _ => true,
         }
     }
 
@@ -78,10 +96,7 @@ mod made {
 
     /// The list of whole hashes, fillings and variable-length hashes.
     pub fn hashes(by_crate: &dyn Side) -> impl Iterator<Item = String> {
-        let head = [
-            "# Recorded by `oracle/record`; the format is oracle/README.md's.".to_string(),
-            "# CASE = ANSWER BY".to_string(),
-        ];
+        let head = [HEAD.to_string(), "# CASE = ANSWER BY".to_string()];
         let cases = generate::recorded().into_iter().filter(fits);
         head.into_iter().chain(cases.map(|case| recorded(by_crate, &case)))
     }
@@ -141,7 +156,7 @@ mod made {
     /// segments, then refusals from the plain copy.
     pub fn positions() -> impl Iterator<Item = String> {
         let mut lines = vec![
-            "# Recorded by `oracle/record`; the format is oracle/README.md's.".to_string(),
+            HEAD.to_string(),
             "# position P M T PASS SLICE LANE BLOCK WORD = ANSWER LANE BLOCK BY".to_string(),
         ];
         for (shape, seed) in shapes().into_iter().zip(1..) {

@@ -3,7 +3,7 @@
 use crate::answer::Row;
 
 /// The 32-bit numbers of a hash.
-#[derive(Clone, Copy, Debug)]
+#[derive(Clone, Copy, Debug, PartialEq, Eq)]
 pub struct Params {
     /// 0 is d, 1 is i, 2 is id.
     pub algorithm: u32,

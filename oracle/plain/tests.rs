@@ -121,3 +121,40 @@ fn program_lines() {
     assert_eq!(line(input.as_flattened()), "refused 1\n");
     assert_eq!(line(&[input.as_flattened(), &[0]].concat()), "bad input 6\n");
 }
+
+/// Steps to completion, the lanes asked in turn from the one that `turn` names; the steps that were accepted.
+fn stepped(mut job: Job, words: &mut [u64], turn: impl Fn(u32) -> u32) -> (Job, u32) {
+    let (mut accepted, mut asked) = (0, 0);
+    loop {
+        let (answer, next) = step(&job, words, turn(asked) % job.params.lanes);
+        match answer {
+            0 => accepted += 1,
+            18 => return (job, accepted),
+            other => assert_eq!((other, next), (20, job)),
+        }
+        (job, asked) = (next, asked + 1);
+    }
+}
+
+#[test]
+fn turns() {
+    for (memory, passes, lanes, steps) in [(8, 1, 1, 6), (32, 3, 4, 88), (47, 2, 3, 66), (37, 6, 3, 210)] {
+        for algorithm in 0..3 {
+            let params = Params { algorithm, memory, passes, lanes, ..BASE };
+            let inputs = Inputs { password: &[1; 32], salt: &[2; 16], secret: &[3; 8], data: &[4; 12] };
+            let (mut whole, mut tag) = (vec![7; params.blocks() * BLOCK_WORDS], [0; 32]);
+            assert_eq!(hash(&params, &inputs, &mut whole, &mut tag), 0);
+            for turn in [|n| n, |n| 5 * n / 3, |n| n / 7] {
+                let mut words = vec![9; whole.len()];
+                let (answer, job) = start(&params, 32, &inputs, &mut words);
+                assert_eq!((answer, job.consistent()), (0, true));
+                let mut out = [0; 32];
+                assert_eq!(finish(&job, &words, &mut out), 21);
+                let (job, accepted) = stepped(job, &mut words, turn);
+                assert_eq!((accepted, finish(&job, &words, &mut out)), (steps, 0));
+                assert_eq!((out, &words), (tag, &whole));
+            }
+        }
+    }
+    assert!(!Job::ZEROS.consistent());
+}

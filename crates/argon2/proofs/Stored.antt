@@ -1,17 +1,20 @@
--- What is stored is made of the previous block, the reference block and, in later passes alone, what stood there; and filling leaves every
--- other block as it was. Assumes nothing.
+-- What is stored, by version and pass. It is made of the previous block, the reference block and, in later passes alone, what stood there;
+-- and filling leaves every other block as it was. Assumes nothing.
 use mathlib.Core.Path.{_≡_, refl, sym, ap, _∙_}
 use mathlib.Core.Logic.{_≢_}
-use mathlib.Core.Bool.{Bool, true, false, cond, true≢false}
+use mathlib.Core.Bool.{Bool, true, false, cond, _||_, true≢false}
 use mathlib.Core.List.{List}
 use Prim.Native.Nat.{ℕ, _*_, _≤_, _<_}
+use native.Mathlib.Omega.{arith}
+use lib.Dec.{eqb}
 use lib.ListN.{length, getD}
+use borrow.Author.Tests.{eq-eqb, ne-eqb}
 use Rattle.block.specs.Block.{blockWords, compress, xors}
 use Rattle.params.specs.Limits.{slices, segment, blocks}
 use Rattle.params.specs.declared.Params.{Params}
 use Rattle.address.specs.Address.{randomWord}
 use Rattle.position.specs.Position.{reference}
-use Rattle.argon2.specs.Filling.{currentIndex, previousIndex, wordFor, referenceIndex, newBlock, overwrites, storedBlock, fill}
+use Rattle.argon2.specs.Filling.{currentIndex, previousIndex, wordFor, referenceIndex, newBlock, overwrites, stored, storedBlock, fill}
 use Rattle.argon2.specs.Memory.{block}
 use Rattle.argon2.proofs.Filling.{room, stored-length}
 use Rattle.argon2.proofs.Memory.{block-put-other}
@@ -19,6 +22,23 @@ use Rattle.argon2.proofs.Memory.{block-put-other}
 -- pass 0 overwrites, whatever the version
 pub overwrites-zero : (P : Params) → overwrites P 0 ≡ true
 overwrites-zero P = refl
+
+-- what is stored: the new block in pass 0; in version 19, every pass from 1 on, its XOR with what stood there; in version 16 the new block
+pub stored-zero : (P : Params) (old new : List ℕ) → stored P 0 old new ≡ new
+stored-zero P old new = refl
+
+pub stored-19 : (P : Params) (r : ℕ) (old new : List ℕ) → P .version ≡ 19 → 1 ≤ r → stored P r old new ≡ xors old new
+stored-19 P r old new e h =
+    ap (λ (v : ℕ). cond (eqb r 0 || eqb v 16) new (xors old new)) e
+    ∙ ap (λ (t : Bool). cond (t || eqb 19 16) new (xors old new)) (ne-eqb r 0 (λ z. omega (arith, z)))
+
+pub stored-16 : (P : Params) (r : ℕ) (old new : List ℕ) → P .version ≡ 16 → stored P r old new ≡ new
+stored-16 P r old new e =
+    ap (λ (t : Bool). cond (eqb r 0 || t) new (xors old new)) (eq-eqb (P .version) 16 e) ∙ go (eqb r 0)
+  where
+    go : (t : Bool) → cond (t || true) new (xors old new) ≡ new
+    go true = refl
+    go false = refl
 
 -- two memories that agree on the blocks that are read, and in later passes on what stood there
 module _

@@ -42,7 +42,7 @@ pub fn hash_password_into_with_memory(
 {
     let n = out.len();
     let rule = Rule::plain();
-    let answer = check_start(
+    let verdict = check_start(
         rule,
         WORDS,
         params,
@@ -53,14 +53,14 @@ pub fn hash_password_into_with_memory(
         ad.len(),
         words.len(),
     );
-    if answer.number() != 0 {
-        return answer;
+    if verdict.number() != 0 {
+        return verdict;
     }
     let h = initial_hash(params, n, password, salt, secret, ad);
     first_blocks(&mut *words, params, h);
     fill_all(&mut *words, params);
     write_tag(&*words, params, out);
-    answer
+    verdict
 }
 
 // The filling alone, its initial hash taken with tag length 0. Refused, the words stay.

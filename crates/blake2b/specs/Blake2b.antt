@@ -28,9 +28,13 @@ depth = 1
 abbrev pub sequential : ℕ
 sequential = fanout * 2 ^ 16 + depth * 2 ^ 24
 
--- 3.3, h[0] := h[0] ^ 0x01010000 ^ nn: no key, an output of n bytes
+-- 2.5, the first word of the parameter block: no key, an output of n bytes
+unfoldable pub parameter : ℕ → ℕ
+parameter n = sequential ⊕ n
+
+-- 3.3, h[0] := h[0] ^ 0x01010000 ^ nn
 unfoldable pub initial : ℕ → List ℕ
-initial n = set IV 0 (IV ! 0 ⊕ sequential ⊕ n)
+initial n = set IV 0 (IV ! 0 ⊕ parameter n)
 
 -- 3.3, h₀ after the first i blocks, none of which is the last
 unfoldable pub chain : List ℕ → ℕ → List ℕ → List ℕ

@@ -5,6 +5,8 @@ use blake2b_compression::Compression;
 use blake2b_compression::Count;
 use blake2b_compression::compress;
 use word::store_words;
+ghost use mathlib.Core.Path.{_≡_};
+ghost use Rattle.blake2b.specs.Blake2b.{parameter};
 ghost use Rattle.blake2b.specs.Promises.{InitialPromise, BeginPromise, FeedPromise, EndPromise, HashPromise};
 
 pub struct Engine {
@@ -26,12 +28,19 @@ impl Engine {
 
     const SEQUENTIAL: u64 = Engine::FANOUT * 0x1_0000 + Engine::DEPTH * 0x100_0000;
 
+    // The first word of the parameter block: no key, an output of n bytes.
+    fn parameter(n: usize) -> u64
+        ensures { λ r. ⌜ r ≡ parameter n ⌝ }
+    {
+        Self::SEQUENTIAL ^ (n as u64)
+    }
+
     // The state before any block, for an output of n bytes.
     pub fn initial(n: usize) -> [u64; Compression::STATE]
         ensures { λ r. ⌜ InitialPromise n r ⌝ }
     {
         let mut h = Compression::IV;
-        h[0] = h[0] ^ Self::SEQUENTIAL ^ (n as u64);
+        h[0] = h[0] ^ Self::parameter(n);
         h
     }
 

@@ -2,12 +2,9 @@
 use Prim.Native.Nat.{ℕ, zero, suc, _+_, _-_, _*_, _/_, _%_, _<_, _≤_}
 use mathlib.Core.List.{List, [], _∷_, _++_}
 use mathlib.Core.Path.{_≡_, refl, sym, ap, _∙_}
-use native.Mathlib.Decide.{decLt}
-use native.Mathlib.Nat.{zero-add}
-use native.Mathlib.Numerals.{add-one}
 use native.Mathlib.Omega.{arith}
-use lib.ListN.{getD, set, take, drop, length, length-append, length-drop, List·getD-append}
-use lib.Seq.{getD-append-add, paste-suc, take-all, take-at}
+use lib.ListN.{getD, take, drop, length, length-append, length-drop}
+use lib.Seq.{take-all, take-at}
 use mathlib.Core.Bool.{Bool, true, false}
 use borrow.Author.Tests.{le-leb, lt-leb}
 use Rattle.hex.specs.Hex.{hexOf, hexDigits, fits}
@@ -28,12 +25,6 @@ digit-is (b ∷ bs) (suc (suc k)) h =
     let q : suc (suc k) / 2 ≡ suc (k / 2) = omega arith in
     let r : suc (suc k) % 2 ≡ k % 2 = omega arith in
     digit-is bs k (omega arith) ∙ rw (q, r)
-
--- one more digit is written
-pub more : (d text : List ℕ) (k v : ℕ) → k < length text → k < length d → v ≡ getD d k 0
-    → set (take k d ++ drop k text) k v ≡ take (k + 1) d ++ drop (k + 1) text
-more d text k v ht hd e =
-    rw (e, add-one) (ap (λ (n : ℕ). set (take k d ++ drop n text) n (getD d k 0)) (sym (zero-add k)) ∙ paste-suc text 0 d k 0 (omega arith) hd ∙ rw zero-add)
 
 -- they count themselves at the text's start
 pub counted : (d text : List ℕ) (n : ℕ) → n ≡ length d → n ≡ length (take n (d ++ drop n text))

@@ -1,4 +1,6 @@
 pub mod Digests
+pub mod FirstBlock
+pub mod Header
 pub mod HashInput
 pub mod Laid
 pub mod MemoryCost

@@ -35,7 +35,7 @@ fn configured(n: u64) -> Configured {
 }
 
 // The parameters of a case.
-fn params(n: [u64; NUMBERS]) -> Params {
+pub(crate) fn params(n: [u64; NUMBERS]) -> Params {
     let length = configured(n[7]);
     Params {
         algorithm: low(n[2]),

@@ -4,8 +4,10 @@ pub mod Canonical
 pub mod Cases
 pub mod Completion
 pub mod Confluence
+pub mod FillMemory
 pub mod Forgotten
 pub mod Order
+pub mod Outside
 pub mod Rank
 pub mod Referred
 pub mod Settled
@@ -13,3 +15,4 @@ pub mod Started
 pub mod Steps
 pub mod Sums
 pub mod Tag
+pub mod WholeHash

@@ -20,8 +20,7 @@ use Rattle.job.specs.declared.Job.{Job}
 use Rattle.position.proofs.Columns.{previous-lt}
 use Rattle.job.proofs.Jobs.{Bounds, inside-bounds}
 use Rattle.job.proofs.Tests.{or-left, or-right, or-second}
-use Rattle.turns.specs.Play.{State, accepts, step, run, writes, refers, startWrites, written}
-use Rattle.turns.specs.Turns.{noted}
+use Rattle.turns.specs.Play.{State, accepts, step, run, writes, refers, startWrites, stepWrites, written}
 use Rattle.turns.proofs.Behind.{next-is-written, reference-behind}
 use Rattle.turns.proofs.Rank.{rank, rank-step}
 use Rattle.turns.proofs.Started.{answered, before, started-params, started-rank}
@@ -66,9 +65,6 @@ start-among (suc n) s a c h k = go (λ q. start-among n s a c q k) (eqb a n) ref
 -- every block behind the job is in xs
 abbrev AllIn : Params → List ℕ → Job → Type 0
 AllIn P xs j = (a c : ℕ) → a < P .lanes → c < laneLength P → c < rank j a → among (index (segment P) a c) xs ≡ true
-
-abbrev stepWrites : State → List ℕ → List ℕ
-stepWrites σ ls = noted State step accepts writes σ ls
 
 module _ (P : Params) (xs : List ℕ) (σ : State) (e : σ .job .params ≡ P) (h : AllIn P xs (σ .job)) (b : ℕ) where
   grown : (a : ℕ) → a < P .lanes → rank (step σ b .job) a ≡ cond (accepts σ b && eqb b a) 1 0 + rank (σ .job) a

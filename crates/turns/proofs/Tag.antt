@@ -73,23 +73,23 @@ start-tag P tag = onward-tag _
 module _
     (P : Params) (tag : ℕ) (numbers : first (rows P) ≡ 0) (allowed : first (outputRows (P .configured) tag) ≡ 0) (h : List ℕ)
   where
-    abbrev on : List ℕ → State
+    abbrev pub on : List ℕ → State
     on w = from P tag numbers allowed h w
 
     -- RFC 9106's order is one, and completes it
-    rfc : (w : List ℕ) → blockWords * blocks P ≤ length w → To P (on w) (fillAll P (on w .memory)) (Begin P (P .passes) 0)
+    pub rfc : (w : List ℕ) → blockWords * blocks P ≤ length w → To P (on w) (fillAll P (on w .memory)) (Begin P (P .passes) 0)
     rfc w fits =
         canonical P tag numbers allowed (on w .memory)
         (omega (arith, fits, start-length h (P .lanes) (segment P) (two (params-within P numbers)) w fits))
 
-    rfc-complete : (w : List ℕ) (fits : blockWords * blocks P ≤ length w) → complete (run (on w) (rfc w fits .0) .job) ≡ true
+    pub rfc-complete : (w : List ℕ) (fits : blockWords * blocks P ≤ length w) → complete (run (on w) (rfc w fits .0) .job) ≡ true
     rfc-complete w fits =
         let b : Begin P (P .passes) 0 (run (on w) (rfc w fits .0) .job) = rfc w fits .3 in
         eq-eqb (run (on w) (rfc w fits .0) .job .pass) (run (on w) (rfc w fits .0) .job .params .passes)
         (b .pass ∙ ap (λ (Q : Params). Q .passes) (sym (b .params)))
 
     -- so any order that completes it leaves that memory
-    complete-memory : (w : List ℕ) → blockWords * blocks P ≤ length w → (ls : List ℕ) → complete (run (on w) ls .job) ≡ true
+    pub complete-memory : (w : List ℕ) → blockWords * blocks P ≤ length w → (ls : List ℕ) → complete (run (on w) ls .job) ≡ true
         → run (on w) ls .memory ≡ fillAll P (on w .memory)
     complete-memory w fits ls c =
         ap (λ (σ : State). σ .memory)

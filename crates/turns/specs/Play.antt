@@ -61,9 +61,13 @@ abbrev pub startWrites : ℕ → ℕ → List ℕ
 startWrites zero s = []
 startWrites (suc n) s = index s n 0 ∷ index s n 1 ∷ startWrites n s
 
+-- the blocks written by the accepted steps, in order
+abbrev pub stepWrites : State → List ℕ → List ℕ
+stepWrites σ ls = noted State step accepts writes σ ls
+
 -- the blocks written by start, which left σ, and then by the accepted steps
 abbrev pub written : State → List ℕ → List ℕ
-written σ ls = startWrites (σ .job .params .lanes) (segment (σ .job .params)) ++ noted State step accepts writes σ ls
+written σ ls = startWrites (σ .job .params .lanes) (segment (σ .job .params)) ++ stepWrites σ ls
 
 -- what an accepted step fills, and the block that it refers to
 pub record Filled : Type 0 where

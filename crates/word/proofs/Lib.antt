@@ -6,4 +6,3 @@ pub mod Part
 pub mod Rotation
 pub mod Settled
 pub mod Table
-pub mod Words

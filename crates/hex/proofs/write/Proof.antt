@@ -5,7 +5,8 @@ use mathlib.Core.Path.{_≡_, refl, ap, _∙_}
 use native.Mathlib.Omega.{arith}
 use lib.ListN.{length, take, drop, set, length-set}
 use Rattle.hex.specs.Hex.{hexDigits}
-use Rattle.hex.proofs.Text.{length-digits, more, refused, done}
+use Rattle.hex.proofs.Text.{length-digits, refused, done}
+use Rattle.word.proofs.Bytes.{stored-more}
 use Rattle.hex.proofs.write.Statement.{statement}
 use Rattle.hex.proofs.write.Tie as tie
 
@@ -30,7 +31,7 @@ loop-again c =
       omega arith,
       length-set (l .text) (l .k) v ∙ l .inv .1,
       ap (λ (t : List ℕ). set t (l .k) v) (l .inv .2)
-          ∙ more (hexDigits (a .bytes .now)) (a .text .now) (l .k) v (omega arith) (omega (arith, length-digits (a .bytes .now))) (c .digit-at .ensures),
+          ∙ stored-more (hexDigits (a .bytes .now)) (a .text .now) (l .k) (omega arith) (omega (arith, length-digits (a .bytes .now))) (c .digit-at .ensures) refl,
     )
 
 returns-2 : tie.Need-returns-2 Inv-loop μ-loop

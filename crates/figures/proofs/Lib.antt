@@ -1,0 +1,4 @@
+pub mod D
+pub mod I
+pub mod Id
+pub mod Inputs

@@ -1,0 +1,4 @@
+pub mod QuickBlock
+pub mod QuickHash
+pub mod Whole
+pub mod Xor
