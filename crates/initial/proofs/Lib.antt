@@ -1,5 +1,3 @@
-pub mod Digests
-pub mod FirstBlock
 pub mod Header
 pub mod HashInput
 pub mod Laid
