@@ -13,7 +13,7 @@ use Rattle.params.specs.Limits.{rows, blocks, minTag, underMinTag}
 use Rattle.params.specs.declared.Configured.{Configured}
 use Rattle.params.specs.declared.Configured.the-variants.{Absent, Length}
 use Rattle.params.specs.declared.Params.{Params}
-use Rattle.argon2.specs.Inner.{Lent}
+use Rattle.memory.specs.Lent.{Lent}
 use Rattle.checks.specs.Rows.{minSalt, plain, leastTag, outputRows, extraRows, inputRows, startRows, fillRows}
 
 -- a length that rows 8 and 11 accept is not 0

@@ -6,8 +6,8 @@ use Rattle.params.specs.Limits.{segment}
 use Rattle.params.specs.declared.Params.{Params}
 use Rattle.initial.specs.Initial.{initialHash}
 use Rattle.argon2.specs.Argon2.{filled}
-use Rattle.argon2.specs.Filling.{fillAll}
-use Rattle.argon2.specs.Start.{startMemory}
+use Rattle.filling.specs.Filling.{fillAll}
+use Rattle.memory.specs.Start.{startMemory}
 
 module _ (P : Params) (tag : ℕ) (password salt secret ad w : List ℕ) {h w₁ : List ℕ}
     (hashes : h ≡ initialHash P tag password salt secret ad) (begins : w₁ ≡ startMemory h (P .lanes) (segment P) w)

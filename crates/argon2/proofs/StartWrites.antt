@@ -17,9 +17,9 @@ use Rattle.params.proofs.Within.{params-within, two}
 use Rattle.position.specs.Position.{index}
 use Rattle.argon2.specs.Calls.{started}
 use Rattle.initial.specs.Initial.{initialHash}
-use Rattle.argon2.specs.Start.{startMemory}
+use Rattle.memory.specs.Start.{startMemory}
 use Rattle.checks.specs.Rows.{minSalt, extraRows, outputRows, inputRows}
-use Rattle.argon2.proofs.StartMemory.{start-outside}
+use Rattle.memory.proofs.StartMemory.{start-outside}
 
 -- parameters that pass rows 1 to 8, a tag length that they allow, and enough memory
 pub record Accepted (P : Params) (tag : ℕ) (w : List ℕ) : Type 0 where

@@ -6,10 +6,11 @@ use Rattle.answer.specs.Answers.{first, ifAccepted}
 use Rattle.block.specs.Block.{blockWords}
 use Rattle.params.specs.Limits.{segment}
 use Rattle.params.specs.declared.Params.{Params}
-use Rattle.argon2.specs.Argon2.{tagOf, filled}
-use Rattle.argon2.specs.Filling.{fill}
+use Rattle.argon2.specs.Argon2.{filled}
+use Rattle.filling.specs.Filling.{fill}
 use Rattle.initial.specs.Initial.{initialHash}
-use Rattle.argon2.specs.Start.{startMemory}
+use Rattle.memory.specs.Start.{startMemory}
+use Rattle.memory.specs.Tag.{tagOf}
 use Rattle.job.specs.Jobs.{position, moved, onward, startJob, zeroJob, stepRows, finishRows}
 use Rattle.checks.specs.Rows.{plain, startRows, fillRows}
 use Rattle.job.specs.declared.Job.{Job}

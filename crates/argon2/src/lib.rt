@@ -1,26 +1,20 @@
 // Argon2 (RFC 9106), one block a call, in memory that the caller lends.
 ghost use denote.Ref.{now};
 ghost use Rattle.argon2.specs.Promises.{StartPromise, StepPromise, FinishPromise, HashPromise, FillMemoryPromise};
-
-mod blocks;
-mod fill;
-mod first;
-mod tag;
-
 use answer::Answer;
 use checks::Rule;
 use checks::WORDS;
 use checks::check_fill;
 use checks::check_start;
-use fill::fill_all;
-use fill::fill_block;
-use first::first_blocks;
+use filling::fill_all;
+use filling::fill_blocks;
 use initial::initial_hash;
 pub use job::Job;
 pub use job::Stepped;
+use memory::first_blocks;
+use memory::write_tag;
 use params::Params;
 use position::LaneNumber;
-use tag::write_tag;
 
 pub struct Started {
     pub answer: Answer,
@@ -141,7 +135,7 @@ pub fn step(job: Job, words: &mut [u64], lane: LaneNumber) -> Stepped
     }
     let params = job.params;
     let block = job.position(lane);
-    fill_block(words, params, job.pass, job.slice, lane, block);
+    fill_blocks(words, params, job.pass, job.slice, lane, block, block + 1);
     next
 }
 

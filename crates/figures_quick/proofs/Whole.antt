@@ -14,11 +14,12 @@ use Rattle.params.specs.declared.Params.{Params}
 use Rattle.address.specs.Address.{addressed, beginning, addressCounter, addressPlace, addressBlock, addressedWord, randomWord}
 use Rattle.position.specs.Position.{firstBlock, index, reference}
 use Rattle.initial.specs.Initial.{le32, initialHashBytes, hashInput, initialHash, firstWords}
-use Rattle.argon2.specs.Start.{startLane, startMemory}
-use Rattle.argon2.specs.Argon2.{lastBlocks, tagOf, filled, argon2}
-use Rattle.argon2.specs.Filling.{currentIndex, previousIndex, overwrites, newBlock, storedBlock, fill, fillSegment, fillSlice, fillPass, fillAll}
-use Rattle.argon2.specs.Loop.{loop}
-use Rattle.argon2.specs.Memory.{block, put}
+use Rattle.memory.specs.Start.{startLane, startMemory}
+use Rattle.memory.specs.Tag.{lastBlocks, tagOf}
+use Rattle.argon2.specs.Argon2.{filled, argon2}
+use Rattle.filling.specs.Filling.{currentIndex, previousIndex, overwrites, newBlock, storedBlock, fill, fillSegment, fillSlice, fillPass, fillAll}
+use Rattle.memory.specs.Loop.{loop}
+use Rattle.memory.specs.Memory.{block, put}
 use Rattle.figures_quick.proofs.QuickBlock.{xorsBy, compressQuick, xors-quick, compress-quick}
 use Rattle.figures_quick.proofs.QuickHash.{blake2bBy, longBy, blake2b-quick, long-quick}
 use Rattle.figures_quick.proofs.Xor.{quick}

@@ -17,7 +17,7 @@ use Rattle.params.specs.declared.Configured.the-variants.{Absent}
 use Rattle.params.specs.declared.Params.{Params}
 use Rattle.position.specs.Position.{previousColumn, referenceLane, finishedLength, area, place, areaStart, referenceColumn}
 use Rattle.initial.specs.Initial.{header, hashInput}
-use Rattle.argon2.specs.Memory.{block, put}
+use Rattle.memory.specs.Memory.{block, put}
 use Rattle.argon2.specs.Argon2.{argon2}
 use Rattle.figures_quick.proofs.Xor.{pairs, nibble, nibbles, quick}
 use Rattle.figures_quick.proofs.QuickHash.{turnBy, GBy, roundBy, mixedBy, foldBy, FBy, chainBy, blake2bBy, joinedBy, longBy}

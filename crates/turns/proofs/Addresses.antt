@@ -17,10 +17,10 @@ use Rattle.address.specs.Address.{addressed, randomWord}
 use Rattle.position.specs.Position.{reference}
 use Rattle.address.proofs.AddressFree.{Alike}
 use Rattle.address.proofs.AddressFree.{address-free as reference-address-free}
-use Rattle.argon2.specs.Filling.{previousIndex}
+use Rattle.filling.specs.Filling.{previousIndex}
 use Rattle.argon2.specs.Calls.{stepped}
 use Rattle.job.specs.Jobs.{position, complete, consistent, moved, onward, stepRows}
-use Rattle.argon2.specs.Memory.{block}
+use Rattle.memory.specs.Memory.{block}
 use Rattle.job.specs.declared.Job.{Job}
 use Rattle.turns.specs.Play.{State, accepts, step, refers, filling, trace, addressedOnly, Filled}
 use Rattle.turns.proofs.Started.{answered, before, started-job, started-params, started-stands}

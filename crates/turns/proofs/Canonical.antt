@@ -14,9 +14,9 @@ use Rattle.params.specs.Limits.{rows, slices, maxLanes, segment, blocks}
 use Rattle.params.specs.declared.Params.{Params}
 use Rattle.params.proofs.Within.{params-within}
 use Rattle.position.specs.Position.{firstBlock}
-use Rattle.argon2.specs.Filling.{fill, fillSegment, fillSlice, fillPass, fillAll}
+use Rattle.filling.specs.Filling.{fill, fillSegment, fillSlice, fillPass, fillAll}
 use Rattle.job.specs.Jobs.{any, position, unfinished, moved, onward, nextSlice, startJob}
-use Rattle.argon2.specs.Loop.{loop}
+use Rattle.memory.specs.Loop.{loop}
 use Rattle.checks.specs.Rows.{outputRows}
 use Rattle.job.specs.declared.Job.{Job}
 use Rattle.job.proofs.Jobs.{Inside, Bounds, inside-bounds, unfinished-by, moved-same, moved-other, moved-stays, onward-unfinished, onward-finished, next-position, next-within, next-pass, first-later, step-stands}

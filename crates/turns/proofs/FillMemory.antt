@@ -18,9 +18,9 @@ use Rattle.checks.specs.Rows.{leastTag, outputRows}
 use Rattle.initial.specs.Initial.{initialHash}
 use Rattle.argon2.specs.Argon2.{filled}
 use Rattle.argon2.specs.Calls.{memoryFilled}
-use Rattle.argon2.specs.Inner.{Lent}
-use Rattle.argon2.specs.Memory.{block}
-use Rattle.argon2.specs.Start.{startMemory}
+use Rattle.memory.specs.Lent.{Lent}
+use Rattle.memory.specs.Memory.{block}
+use Rattle.memory.specs.Start.{startMemory}
 use Rattle.argon2.proofs.Inputs.{fill-lent}
 use Rattle.job.specs.Jobs.{complete, startJob}
 use Rattle.turns.specs.Play.{State, run}

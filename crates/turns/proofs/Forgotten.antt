@@ -17,19 +17,19 @@ use Rattle.params.specs.declared.Params.{Params}
 use Rattle.params.proofs.Within.{params-within, two}
 use Rattle.position.specs.Position.{column, index, previousColumn, referenceLane, referenceColumn}
 use Rattle.position.proofs.Referring.{ref-lane, ref-column}
-use Rattle.argon2.specs.Filling.{storedBlock}
+use Rattle.filling.specs.Filling.{storedBlock}
 use Rattle.initial.specs.Initial.{initialHash}
-use Rattle.argon2.specs.Start.{startMemory}
+use Rattle.memory.specs.Start.{startMemory}
 use Rattle.job.specs.Jobs.{position, complete, startJob}
-use Rattle.argon2.specs.Memory.{block}
+use Rattle.memory.specs.Memory.{block}
 use Rattle.checks.specs.Rows.{outputRows}
 use Rattle.job.specs.declared.Job.{Job}
-use Rattle.argon2.proofs.Filling.{fill-block}
+use Rattle.filling.proofs.Filling.{fill-block}
 use Rattle.position.proofs.Columns.{column-lt, previous-lt}
 use Rattle.job.proofs.Jobs.{Bounds, inside-bounds, Ready}
-use Rattle.argon2.proofs.StartMemory.{start-length, start-block}
+use Rattle.memory.proofs.StartMemory.{start-length, start-block}
 use Rattle.argon2.proofs.StartWrites.{Accepted, accepted-start}
-use Rattle.argon2.proofs.Stored.{same-stored, fill-other}
+use Rattle.filling.proofs.Stored.{same-stored, fill-other}
 use Rattle.turns.specs.Play.{State, accepts, step, run, writes}
 use Rattle.turns.proofs.Behind.{later, next-is-written, reference-behind, previous-behind}
 use Rattle.turns.proofs.Completion.{run-complete, complete-alike}

@@ -7,10 +7,10 @@ use mathlib.Core.List.{List}
 use Prim.Native.Nat.{ℕ}
 use native.Mathlib.Omega.{arith}
 use Rattle.params.proofs.Within.{two}
-use Rattle.argon2.specs.Filling.{fill}
+use Rattle.filling.specs.Filling.{fill}
 use Rattle.job.specs.Jobs.{position, moved, onward}
 use Rattle.job.specs.declared.Job.{Job}
-use Rattle.argon2.proofs.Commute.{fill-comm}
+use Rattle.filling.proofs.Commute.{fill-comm}
 use Rattle.job.proofs.Jobs.{Bounds, inside-bounds, unfinished-by, moved-other, moved-stays, moved-comm, onward-unfinished}
 use Rattle.turns.specs.Play.{State, accepts, step, run, accepted}
 use Rattle.turns.proofs.Confluence.{order-free}

@@ -22,9 +22,9 @@ use Rattle.job.specs.Jobs.{position, complete}
 use Rattle.job.specs.declared.Job.{Job}
 use Rattle.job.proofs.Tests.{or-false}
 use Rattle.argon2.specs.Calls.{Result, started, stepped, finished, hashed, memoryFilled}
-use Rattle.argon2.specs.Inner.{Lent}
-use Rattle.argon2.specs.Start.{startMemory}
-use Rattle.argon2.proofs.StartMemory.{start-length, start-outside}
+use Rattle.memory.specs.Lent.{Lent}
+use Rattle.memory.specs.Start.{startMemory}
+use Rattle.memory.proofs.StartMemory.{start-length, start-outside}
 use Rattle.argon2.proofs.StartWrites.{Accepted, accepted-start}
 use Rattle.turns.specs.Play.{State, on, begun, accepts, step, run, writes, stepWrites, startWrites, written}
 use Rattle.turns.proofs.FillMemory.{untagged, fill-answer, fill-lends, fills}

@@ -14,7 +14,7 @@ use Rattle.params.specs.declared.Params.{Params}
 use Rattle.params.proofs.Within.{two}
 use Rattle.position.specs.Position.{column, index, previousColumn, referenceLane, referenceColumn}
 use Rattle.position.proofs.Referring.{ref-lane, ref-column, ref-not-current, ref-not-previous, ref-not-beside, same-lane}
-use Rattle.argon2.specs.Filling.{previousIndex, wordFor}
+use Rattle.filling.specs.Filling.{previousIndex, wordFor}
 use Rattle.job.specs.Jobs.{position}
 use Rattle.job.specs.declared.Job.{Job}
 use Rattle.position.proofs.Columns.{previous-lt}

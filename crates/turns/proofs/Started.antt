@@ -17,13 +17,13 @@ use Rattle.params.proofs.Within.{params-within, two}
 use Rattle.position.specs.Position.{firstBlock, index}
 use Rattle.argon2.specs.Calls.{started}
 use Rattle.initial.specs.Initial.{initialHash, firstWords}
-use Rattle.argon2.specs.Start.{startMemory}
+use Rattle.memory.specs.Start.{startMemory}
 use Rattle.job.specs.Jobs.{position, onward, nextSlice, startJob, zeroJob}
-use Rattle.argon2.specs.Memory.{block}
+use Rattle.memory.specs.Memory.{block}
 use Rattle.checks.specs.Rows.{outputRows}
 use Rattle.job.specs.declared.Job.{Job}
 use Rattle.job.proofs.Jobs.{Bounds, unfinished-by, onward-unfinished, onward-finished, zeros-at, next-position, next-stands}
-use Rattle.argon2.proofs.StartMemory.{start-length, start-block}
+use Rattle.memory.proofs.StartMemory.{start-length, start-block}
 use Rattle.argon2.proofs.StartWrites.{Accepted, accepted-start, start-others}
 use Rattle.job.proofs.Tests.{any-of-false}
 use Rattle.turns.specs.Play.{State, begun, startWrites}

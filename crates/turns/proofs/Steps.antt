@@ -14,11 +14,11 @@ use Rattle.params.specs.Limits.{blocks}
 use Rattle.params.specs.declared.Params.{Params}
 use Rattle.params.proofs.Within.{two}
 use Rattle.argon2.specs.Calls.{stepped}
-use Rattle.argon2.specs.Filling.{fill, storedBlock}
+use Rattle.filling.specs.Filling.{fill, storedBlock}
 use Rattle.job.specs.Jobs.{position, complete, consistent, unfinished, moved, onward, nextSlice, stepRows}
-use Rattle.argon2.specs.Memory.{block}
+use Rattle.memory.specs.Memory.{block}
 use Rattle.job.specs.declared.Job.{Job}
-use Rattle.argon2.proofs.Filling.{fill-length, fill-block, fill-outside}
+use Rattle.filling.proofs.Filling.{fill-length, fill-block, fill-outside}
 use Rattle.job.proofs.Jobs.{Inside, Complete, inside-bounds, stands-inside, stands-complete, inside-consistent, complete-consistent, Ready, ready, ready-accepted, step-stands}
 use Rattle.turns.specs.Play.{State, accepts, step, run, writes}
 

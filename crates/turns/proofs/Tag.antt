@@ -17,16 +17,17 @@ use Rattle.params.specs.declared.Params.{Params}
 use Rattle.params.proofs.Within.{params-within, two}
 use Rattle.position.specs.Position.{index}
 use Rattle.position.proofs.Referring.{index-lt}
-use Rattle.argon2.specs.Argon2.{lastBlocks, tagOf, filled, argon2}
+use Rattle.memory.specs.Tag.{lastBlocks, tagOf}
+use Rattle.argon2.specs.Argon2.{filled, argon2}
 use Rattle.argon2.specs.Calls.{Result, started, finished, hashed}
-use Rattle.argon2.specs.Filling.{fillAll}
+use Rattle.filling.specs.Filling.{fillAll}
 use Rattle.initial.specs.Initial.{initialHash}
 use Rattle.job.specs.Jobs.{complete, unfinished, moved, onward, nextSlice, startJob}
-use Rattle.argon2.specs.Memory.{block}
+use Rattle.memory.specs.Memory.{block}
 use Rattle.checks.specs.Rows.{outputRows}
 use Rattle.job.specs.declared.Job.{Job}
 use Rattle.job.proofs.Jobs.{Finishing, finishing-accepted}
-use Rattle.argon2.proofs.StartMemory.{start-length}
+use Rattle.memory.proofs.StartMemory.{start-length}
 use Rattle.argon2.proofs.StartWrites.{Accepted, accepted-start}
 use Rattle.turns.specs.Play.{State, step, run}
 use Rattle.turns.proofs.Canonical.{To, canonical}

@@ -9,7 +9,7 @@ use Rattle.params.specs.declared.Params.{Params}
 use Rattle.address.specs.Address.{addressed}
 use Rattle.position.specs.Position.{index}
 use Rattle.argon2.specs.Calls.{started, stepped}
-use Rattle.argon2.specs.Filling.{currentIndex, referenceIndex}
+use Rattle.filling.specs.Filling.{currentIndex, referenceIndex}
 use Rattle.job.specs.Jobs.{position}
 use Rattle.job.specs.declared.Job.{Job}
 use Rattle.turns.specs.Turns.{turns, acceptedOf, acceptedAll, noted}

@@ -11,8 +11,9 @@ use Rattle.block.specs.Block.{blockWords}
 use Rattle.checks.specs.Rows.{plain, fillRows}
 use Rattle.argon2.specs.Argon2.{filled}
 use Rattle.argon2.specs.Calls.{memoryFilled}
-use Rattle.argon2.specs.Inner.{Lent}
-use Rattle.argon2.proofs.Inner.{lent-as}
+use Rattle.memory.specs.Lent.{Lent}
+use Rattle.memory.proofs.Lent.{lent-as, first-there}
+use Rattle.filling.proofs.Inner.{all-there}
 use Rattle.argon2.proofs.Inputs.{fill-lent}
 use Rattle.argon2.proofs.Parts.{completed}
 use Rattle.argon2.proofs.fill_memory.Statement.{statement}
@@ -56,12 +57,6 @@ lent c =
     fill-lent (a .params) (length (a .password .now)) (length (a .salt .now)) (length (a .secret .now)) (length (a .ad .now)) (length (a .words .now))
     (accepted c)
 
-first-blocks-requires : tie.Need-first-blocks-requires
-first-blocks-requires c κs = lent (c .before .before)
-
-fill-all-requires : tie.Need-fill-all-requires
-fill-all-requires c κs = lent-as (lent (c .before .before .before .before .before .before)) (search needs)
-
 returns-2 : tie.Need-returns-2
 unfolding memoryFilled
 returns-2 c =
@@ -75,7 +70,7 @@ returns-2 c =
       answer = checked (e .before .before);
       memory =
           completed (a .params) 0 (a .password .now) (a .salt .now) (a .secret .now) (a .ad .now) (a .words .now) (i .initial-hash .ensures .result)
-          (b .first-blocks .ensures) (f .fill-all .ensures)
+          (first-there (b .first-blocks .ensures) (lent e)) (all-there (f .fill-all .ensures) (lent-as (lent e) (search needs)))
           ∙ sym (left-new (answer s) (memory s) (a .words .now) (accepted e));
     }
 
@@ -88,7 +83,7 @@ fill-memory-spec =
     (λ c κs. search needs)
     returns
     (λ c κs. search needs)
-    first-blocks-requires
-    fill-all-requires
+    (λ c κs. search needs)
+    (λ c κs. search needs)
     (λ c. search needs)
     returns-2)

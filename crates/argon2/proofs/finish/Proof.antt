@@ -5,10 +5,11 @@ use native.Mathlib.Omega.{arith}
 use lib.ListN.{length}
 use borrow.Author.Needs.{needs}
 use Rattle.answer.specs.Answers.{first}
-use Rattle.argon2.specs.Argon2.{tagOf}
+use Rattle.memory.specs.Tag.{tagOf}
 use Rattle.argon2.specs.Calls.{finished}
 use Rattle.job.specs.Jobs.{finishRows}
 use Rattle.answer.proofs.Answered.{left-new, left-old}
+use Rattle.memory.proofs.Lent.{tag-there}
 use Rattle.argon2.proofs.Inputs.{tag-some}
 use Rattle.checks.proofs.Tags.{held-fits}
 use Rattle.job.proofs.Jobs.{finishing, finish-fits}
@@ -36,19 +37,6 @@ returns c =
       output = sym (left-old (answer s) (tagOf (a .job .params) (length (a .out .now)) (a .words .now)) (a .out .now) refused);
     }
 
-write-tag-requires : tie.Need-write-tag-requires
-write-tag-requires c κs =
-    let e = c .before .before in
-    let s = e .before .before .before .before .before in
-    let a = s .args in
-    let f = finishing (a .job) (length (a .words .now)) (length (a .out .now)) (accepted e) in
-    let some = tag-some (a .job .params) (a .job .tag) (f .complete .numbers) (f .complete .tag) in (
-      record { accepted = f .complete .numbers; enough = f .fits },
-      omega (arith, some, f .length),
-      finish-fits (a .job) (length (a .words .now)) (length (a .out .now))
-          (held-fits (a .job .params .configured) (s .good .0 .1 .1 .0 .1 .1 .1 .1 .1 .1 .1 .0)) (accepted e),
-    )
-
 returns-2 : tie.Need-returns-2
 unfolding finished
 returns-2 c =
@@ -56,11 +44,18 @@ returns-2 c =
     let e = t .before .before .before in
     let s = e .before .before .before .before .before in
     let a = s .args in
+    let f = finishing (a .job) (length (a .words .now)) (length (a .out .now)) (accepted e) in
+    let some = tag-some (a .job .params) (a .job .tag) (f .complete .numbers) (f .complete .tag) in
+    let fits =
+    finish-fits (a .job) (length (a .words .now)) (length (a .out .now))
+    (held-fits (a .job .params .configured) (s .good .0 .1 .1 .0 .1 .1 .1 .1 .1 .1 .1 .0)) (accepted e) in
     record {
       answer = e .before .before .check-finish .ensures .answer;
-      output = t .write-tag .ensures ∙ sym (left-new (answer s) (tagOf (a .job .params) (length (a .out .now)) (a .words .now)) (a .out .now) (accepted e));
+      output =
+          tag-there (t .write-tag .ensures) (record { accepted = f .complete .numbers; enough = f .fits }) (omega (arith, some, f .length)) fits
+          ∙ sym (left-new (answer s) (tagOf (a .job .params) (length (a .out .now)) (a .words .now)) (a .out .now) (accepted e));
     }
 
 pub finish-spec : {M : Type 1} → statement M
 finish-spec =
-    tie.close (tie.spec (λ c κs. search needs) (λ c κs. search needs) returns write-tag-requires (λ c. search needs) returns-2)
+    tie.close (tie.spec (λ c κs. search needs) (λ c κs. search needs) returns (λ c κs. search needs) (λ c. search needs) returns-2)

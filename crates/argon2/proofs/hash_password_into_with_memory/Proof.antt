@@ -12,10 +12,12 @@ use Rattle.block.specs.Block.{blockWords}
 use Rattle.checks.specs.Rows.{plain, startRows}
 use Rattle.checks.proofs.Tags.{held-fits, start-fits}
 use Rattle.word.specs.Word.{maxLength}
-use Rattle.argon2.specs.Argon2.{tagOf, filled}
+use Rattle.memory.specs.Tag.{tagOf}
+use Rattle.argon2.specs.Argon2.{filled}
 use Rattle.argon2.specs.Calls.{hashed}
-use Rattle.argon2.specs.Inner.{Lent}
-use Rattle.argon2.proofs.Inner.{lent-as}
+use Rattle.memory.specs.Lent.{Lent}
+use Rattle.memory.proofs.Lent.{lent-as, first-there, tag-there}
+use Rattle.filling.proofs.Inner.{all-there}
 use Rattle.argon2.proofs.Inputs.{start-lent, start-some}
 use Rattle.argon2.proofs.Parts.{completed}
 use Rattle.argon2.proofs.hash_password_into_with_memory.Statement.{statement}
@@ -77,20 +79,6 @@ fits c =
     start-fits plain blockWords (a .params) (length (a .out .now)) (length (a .password .now)) (length (a .salt .now)) (length (a .secret .now)) (length (a .ad .now))
     (length (a .words .now)) (held-fits (a .params .configured) (entry c .good .0 .1 .1 .1 .1 .1 .1 .1 .0)) (accepted c)
 
-first-blocks-requires : tie.Need-first-blocks-requires
-first-blocks-requires c κs = lent (c .before .before)
-
-fill-all-requires : tie.Need-fill-all-requires
-fill-all-requires c κs = lent-as (lent (c .before .before .before .before .before .before)) (search needs)
-
-write-tag-requires : tie.Need-write-tag-requires
-write-tag-requires c κs =
-    let e = c .before .before .before .before .before .before .before .before .before .before .before in (
-      lent-as (lent e) (search needs),
-      some e,
-      fits e,
-    )
-
 returns-2 : tie.Need-returns-2
 unfolding hashed
 returns-2 c =
@@ -103,12 +91,12 @@ returns-2 c =
     let a = s .args in
     let filling =
     completed (a .params) (length (a .out .now)) (a .password .now) (a .salt .now) (a .secret .now) (a .ad .now) (a .words .now)
-    (i .initial-hash .ensures .result) (b .first-blocks .ensures) (f .fill-all .ensures) in
+    (i .initial-hash .ensures .result) (first-there (b .first-blocks .ensures) (lent e)) (all-there (f .fill-all .ensures) (lent-as (lent e) (search needs))) in
     record {
       answer = checked (e .before .before);
       memory = filling ∙ sym (left-new (answer s) (memory s) (a .words .now) (accepted e));
       output =
-          t .write-tag .ensures
+          tag-there (t .write-tag .ensures) (lent-as (lent e) (search needs)) (some e) (fits e)
           ∙ ap (tagOf (a .params) (length (a .out .now))) filling
           ∙ sym (left-new (answer s) (output s) (a .out .now) (accepted e));
     }
@@ -122,9 +110,9 @@ hash-password-into-with-memory-spec =
     (λ c κs. search needs)
     returns
     (λ c κs. search needs)
-    first-blocks-requires
-    fill-all-requires
-    write-tag-requires
+    (λ c κs. search needs)
+    (λ c κs. search needs)
+    (λ c κs. search needs)
     (λ c. search needs)
     (λ c. search needs)
     returns-2)

@@ -8,13 +8,14 @@ use borrow.Author.Needs.{needs}
 use Rattle.answer.specs.Answers.{number, first}
 use Rattle.params.specs.Limits.{rows, segment}
 use Rattle.argon2.specs.Calls.{started}
-use Rattle.argon2.specs.Inner.{Lent}
+use Rattle.memory.specs.Lent.{Lent}
 use Rattle.initial.specs.Initial.{initialHash}
-use Rattle.argon2.specs.Start.{startMemory}
+use Rattle.memory.specs.Start.{startMemory}
 use Rattle.job.specs.Jobs.{startJob, zeroJob}
 use Rattle.block.specs.Block.{blockWords}
 use Rattle.checks.specs.Rows.{plain, startRows}
 use Rattle.answer.proofs.Answered.{left-new, left-old}
+use Rattle.memory.proofs.Lent.{first-there}
 use Rattle.argon2.proofs.Inputs.{start-lent}
 use Rattle.argon2.proofs.Parts.{begun}
 use Rattle.argon2.proofs.start.Statement.{statement}
@@ -76,7 +77,7 @@ returns-2 c =
           ∙ sym (left-new (answer s) (startJob (a .params) (a .tag)) zeroJob (accepted e));
       memory =
           begun (a .params) (a .tag) (a .password .now) (a .salt .now) (a .secret .now) (a .ad .now) (a .words .now) (i .initial-hash .ensures .result)
-          (b .first-blocks .ensures)
+          (first-there (b .first-blocks .ensures) (lent e))
           ∙ sym (left-new (answer s) (memory s) (a .words .now) (accepted e));
     }
 
@@ -90,7 +91,7 @@ start-spec =
     (λ c κs. search needs)
     returns
     (λ c κs. search needs)
-    (λ c κs. lent (c .before .before))
+    (λ c κs. search needs)
     (λ c κs. search needs)
     (λ c. search needs)
     returns-2)

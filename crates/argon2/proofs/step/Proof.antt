@@ -1,12 +1,16 @@
 -- `argon2::step` meets its contract: refused, job and words stay; accepted, the rows say that the block is one that a step fills. Assumes nothing.
-use Prim.Native.Nat.{ℕ}
+use Prim.Native.Nat.{ℕ, _+_}
 use mathlib.Core.Path.{_≡_, sym, ap, _∙_}
 use native.Mathlib.Omega.{arith}
 use lib.ListN.{length}
 use borrow.Author.Needs.{needs}
 use Rattle.answer.specs.Answers.{first}
 use Rattle.argon2.specs.Calls.{stepped}
-use Rattle.argon2.specs.Filling.{fill}
+use Rattle.filling.specs.Filling.{fill, fillBlocks}
+use Rattle.filling.proofs.Filling.{one-block}
+use Rattle.filling.specs.Inner.{Part}
+use Rattle.filling.proofs.Inner.{blocks-there}
+use Rattle.params.proofs.Sizes.{lane-le}
 use Rattle.job.specs.Jobs.{position, stepRows}
 use Rattle.answer.proofs.Answered.{left-new, left-old}
 use Rattle.job.proofs.Jobs.{Ready, ready}
@@ -37,11 +41,17 @@ returns c =
       memory = sym (left-old n (fill (a .job .params) (a .job .pass) (a .job .slice) (a .lane .0) (position (a .job) (a .lane .0)) (a .words .now)) (a .words .now) refused);
     }
 
-fill-block-requires : tie.Need-fill-block-requires
-fill-block-requires c κs =
-    let r = is-ready (c .before .before .before) in
-    let a = c .before .before .before .before .before .before .before .args in
-    let at = c .before .position .ensures .result in
+returns-2 : tie.Need-returns-2
+unfolding stepped
+returns-2 c =
+    let f = c .before .before in
+    let e = f .before .before .before .before in
+    let a = e .before .before .before .before .args in
+    let n = first (stepRows (a .job) (length (a .words .now)) (a .lane .0)) in
+    let k = position (a .job) (a .lane .0) in
+    let at = f .before .before .position .ensures .result in
+    let r = is-ready e in
+    let part : Part (a .job .params) (a .job .pass) (a .job .slice) (a .lane .0) (f .before .before .position .result) (f .before .before .position .result + 1) (length (a .words .now)) =
     record {
       of =
           record {
@@ -50,26 +60,23 @@ fill-block-requires c κs =
             slice = r .inside .within;
             lane = r .lane;
           };
-      from = omega (arith, at, r .inside .low (a .lane .0) (r .lane));
-      inside = omega (arith, at, r .under);
-    }
-
-returns-2 : tie.Need-returns-2
-unfolding stepped
-returns-2 c =
-    let f = c .before .before in
-    let e = f .before .before .before .before in
-    let a = e .before .before .before .before .args in
-    let n = first (stepRows (a .job) (length (a .words .now)) (a .lane .0)) in
-    let filled = fill (a .job .params) (a .job .pass) (a .job .slice) (a .lane .0) (position (a .job) (a .lane .0)) (a .words .now) in
+      low = omega (arith, at, r .inside .low (a .lane .0) (r .lane));
+      high = omega (arith, at, r .under);
+    } in
     record {
       answer = e .before .before .after .ensures .answer;
       job = e .before .before .after .ensures .job;
       memory =
-          f .fill-block .ensures
-          ∙ ap (λ (k : ℕ). fill (a .job .params) (a .job .pass) (a .job .slice) (a .lane .0) k (a .words .now)) (f .before .before .position .ensures .result)
-          ∙ sym (left-new n filled (a .words .now) (accepted e));
+          blocks-there (f .fill-blocks .ensures) part
+          ∙ ap (λ (m : ℕ). fillBlocks (a .job .params) (a .job .pass) (a .job .slice) (a .lane .0) m (m + 1) (a .words .now)) at
+          ∙ one-block (a .job .params) (a .job .pass) (a .job .slice) (a .lane .0) k (a .words .now)
+          ∙ sym (left-new n (fill (a .job .params) (a .job .pass) (a .job .slice) (a .lane .0) k (a .words .now)) (a .words .now) (accepted e));
     }
+
+add-fill-blocks : tie.Need-add-fill-blocks
+add-fill-blocks c =
+    let P = c .before .before .before .before .before .before .before .args .job .params in
+    omega (arith, c .before .position .ensures .result, is-ready (c .before .before .before) .under, lane-le (P .memory) (P .lanes))
 
 pub step-spec : {M : Type 1} → statement M
 step-spec =
@@ -79,6 +86,7 @@ step-spec =
     (λ c κs. search needs)
     returns
     (λ c κs. search needs)
-    fill-block-requires
+    add-fill-blocks
+    (λ c κs. search needs)
     (λ c. search needs)
     returns-2)

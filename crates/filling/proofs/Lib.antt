@@ -1,0 +1,5 @@
+pub mod Commute
+pub mod Filling
+pub mod Inner
+pub mod Settled
+pub mod Stored
