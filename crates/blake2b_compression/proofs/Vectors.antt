@@ -1,5 +1,5 @@
 -- Figures of appendix A and of another implementation hold of the definition, by computation. Assumes nothing.
-use Prim.Native.Nat.{ℕ}
+use Prim.Native.Nat.{ℕ, _+_, _^_}
 use mathlib.Core.Bool.{true}
 use mathlib.Core.List.{List, [], _∷_}
 use mathlib.Core.Path.{_≡_, refl}
@@ -27,3 +27,10 @@ pub counting : F start (words (table (λ k. k) blockBytes)) blockBytes true
     ∷ 0x043b33ac39f4cf8c ∷ 0x611ad1ddc4b0190f ∷ 0x39a0100ffec14ae2 ∷ 0x15d1a30dcc5d6c80 ∷ []
 unfolding table rotr numberAt wordsOf row sum turn G round mixed flips local fold F
 counting = refl
+
+-- the same block with a count over 64 bits, so that both words of the count show
+pub counted-over : F start (words (table (λ k. k) blockBytes)) (2 ^ 64 + blockBytes) true
+    ≡ 0xfd356aae674fccf1 ∷ 0x9ddf7c9a06ad457b ∷ 0xb216bc26b40427d4 ∷ 0xd8ec840b28e1e216
+    ∷ 0x88715151982e9885 ∷ 0x240ee9a50167251e ∷ 0x7a3ed438463f8f29 ∷ 0x7ae1049e24e022e4 ∷ []
+unfolding table rotr numberAt wordsOf row sum turn G round mixed flips local fold F
+counted-over = refl

@@ -2,7 +2,7 @@
 -- what Debian's `printf %s password | argon2 somesalt -d -v 13 -k 8 -p 1 -t 2 -l 32 -r` prints. Only the tag comes from there: the initial hash
 -- and the blocks stand here so that each is computed once, and a lemma checks each: the first ones, then slice by slice. Assumes nothing.
 use mathlib.Core.List.{List, [], _∷_, _++_}
-use mathlib.Core.Path.{_≡_, refl, _∙_}
+use mathlib.Core.Path.{_≡_, refl}
 use Prim.Native.Nat.{ℕ}
 use lib.ListN.{replicate}
 use Rattle.word.specs.Table.{table}
@@ -19,10 +19,11 @@ use Rattle.initial.specs.Initial.{header, hashInput}
 use Rattle.memory.specs.Memory.{block, put}
 use Rattle.argon2.specs.Argon2.{argon2}
 use Rattle.figures.proofs.Inputs.{smallest, password, salt}
+use Rattle.figures.proofs.TwoPasses.{slice, two-passes}
 use Rattle.figures_quick.proofs.Xor.{pairs, nibble, nibbles, quick}
 use Rattle.figures_quick.proofs.QuickHash.{turnBy, GBy, roundBy, mixedBy, foldBy, FBy, chainBy, blake2bBy, joinedBy, longBy}
 use Rattle.figures_quick.proofs.QuickBlock.{rowsOf, columnsOf, quarterBy, quarterAtBy, permutationBy, xorsBy, compressBy, compressQuick}
-use Rattle.figures_quick.proofs.Whole.{addressOf, wordOf, newOf, fillOf, fillSegmentOf, fillSliceOf, fillPassOf, fillAllOf, firstOf, startOf, lastOf, tagBy, argon2Of, argon2-quick}
+use Rattle.figures_quick.proofs.Whole.{addressOf, wordOf, newOf, fillOf, fillSegmentOf, fillSliceOf, firstOf, lastOf, tagBy}
 
 abbrev params : Params
 params = smallest d v13 2
@@ -462,67 +463,59 @@ laid : put 1 b0-1 (put 0 b0-0 (replicate 1024 0)) ≡ m0-0
 unfolding put m0-0 b0-0 b0-1
 laid = refl
 
-slice-0-0 : fillSliceOf compressQuick (xorsBy quick) params 0 0 m0-0 ≡ m0-0
-unfolding fillSliceOf fillSegmentOf segmentLength
-slice-0-0 = refl
-
 unfoldable m0-1 : List ℕ
 m0-1 = b0-0 ++ b0-1 ++ b0-2 ++ b0-3 ++ replicate 512 0
 
-slice-0-1 : fillSliceOf compressQuick (xorsBy quick) params 0 1 m0-0 ≡ m0-1
+slice-0-1 : slice d v13 0 1 m0-0 ≡ m0-1
 unfolding m0-0 m0-1 b0-0 b0-1 b0-2 b0-3 fillSliceOf fillSegmentOf fillOf newOf wordOf addressOf block put referenceColumn areaStart place area finishedLength referenceLane previousColumn segmentLength compressQuick compressBy xorsBy columnsOf rowsOf registers permutationBy quarterAtBy quarterBy multiplyAdd rotr table quick nibbles nibble pairs
 slice-0-1 = refl
 
 unfoldable m0-2 : List ℕ
 m0-2 = b0-0 ++ b0-1 ++ b0-2 ++ b0-3 ++ b0-4 ++ b0-5 ++ replicate 256 0
 
-slice-0-2 : fillSliceOf compressQuick (xorsBy quick) params 0 2 m0-1 ≡ m0-2
+slice-0-2 : slice d v13 0 2 m0-1 ≡ m0-2
 unfolding m0-1 m0-2 b0-0 b0-1 b0-2 b0-3 b0-4 b0-5 fillSliceOf fillSegmentOf fillOf newOf wordOf addressOf block put referenceColumn areaStart place area finishedLength referenceLane previousColumn segmentLength compressQuick compressBy xorsBy columnsOf rowsOf registers permutationBy quarterAtBy quarterBy multiplyAdd rotr table quick nibbles nibble pairs
 slice-0-2 = refl
 
 unfoldable m0-3 : List ℕ
 m0-3 = b0-0 ++ b0-1 ++ b0-2 ++ b0-3 ++ b0-4 ++ b0-5 ++ b0-6 ++ b0-7
 
-slice-0-3 : fillSliceOf compressQuick (xorsBy quick) params 0 3 m0-2 ≡ m0-3
+slice-0-3 : slice d v13 0 3 m0-2 ≡ m0-3
 unfolding m0-2 m0-3 b0-0 b0-1 b0-2 b0-3 b0-4 b0-5 b0-6 b0-7 fillSliceOf fillSegmentOf fillOf newOf wordOf addressOf block put referenceColumn areaStart place area finishedLength referenceLane previousColumn segmentLength compressQuick compressBy xorsBy columnsOf rowsOf registers permutationBy quarterAtBy quarterBy multiplyAdd rotr table quick nibbles nibble pairs
 slice-0-3 = refl
 
 unfoldable m1-0 : List ℕ
 m1-0 = b1-0 ++ b1-1 ++ b0-2 ++ b0-3 ++ b0-4 ++ b0-5 ++ b0-6 ++ b0-7
 
-slice-1-0 : fillSliceOf compressQuick (xorsBy quick) params 1 0 m0-3 ≡ m1-0
+slice-1-0 : slice d v13 1 0 m0-3 ≡ m1-0
 unfolding m0-3 m1-0 b0-0 b0-1 b0-2 b0-3 b0-4 b0-5 b0-6 b0-7 b1-0 b1-1 fillSliceOf fillSegmentOf fillOf newOf wordOf addressOf block put referenceColumn areaStart place area finishedLength referenceLane previousColumn segmentLength compressQuick compressBy xorsBy columnsOf rowsOf registers permutationBy quarterAtBy quarterBy multiplyAdd rotr table quick nibbles nibble pairs
 slice-1-0 = refl
 
 unfoldable m1-1 : List ℕ
 m1-1 = b1-0 ++ b1-1 ++ b1-2 ++ b1-3 ++ b0-4 ++ b0-5 ++ b0-6 ++ b0-7
 
-slice-1-1 : fillSliceOf compressQuick (xorsBy quick) params 1 1 m1-0 ≡ m1-1
+slice-1-1 : slice d v13 1 1 m1-0 ≡ m1-1
 unfolding m1-0 m1-1 b1-0 b1-1 b0-2 b0-3 b0-4 b0-5 b0-6 b0-7 b1-2 b1-3 fillSliceOf fillSegmentOf fillOf newOf wordOf addressOf block put referenceColumn areaStart place area finishedLength referenceLane previousColumn segmentLength compressQuick compressBy xorsBy columnsOf rowsOf registers permutationBy quarterAtBy quarterBy multiplyAdd rotr table quick nibbles nibble pairs
 slice-1-1 = refl
 
 unfoldable m1-2 : List ℕ
 m1-2 = b1-0 ++ b1-1 ++ b1-2 ++ b1-3 ++ b1-4 ++ b1-5 ++ b0-6 ++ b0-7
 
-slice-1-2 : fillSliceOf compressQuick (xorsBy quick) params 1 2 m1-1 ≡ m1-2
+slice-1-2 : slice d v13 1 2 m1-1 ≡ m1-2
 unfolding m1-1 m1-2 b1-0 b1-1 b1-2 b1-3 b0-4 b0-5 b0-6 b0-7 b1-4 b1-5 fillSliceOf fillSegmentOf fillOf newOf wordOf addressOf block put referenceColumn areaStart place area finishedLength referenceLane previousColumn segmentLength compressQuick compressBy xorsBy columnsOf rowsOf registers permutationBy quarterAtBy quarterBy multiplyAdd rotr table quick nibbles nibble pairs
 slice-1-2 = refl
 
 unfoldable m1-3 : List ℕ
 m1-3 = b1-0 ++ b1-1 ++ b1-2 ++ b1-3 ++ b1-4 ++ b1-5 ++ b1-6 ++ b1-7
 
-slice-1-3 : fillSliceOf compressQuick (xorsBy quick) params 1 3 m1-2 ≡ m1-3
+slice-1-3 : slice d v13 1 3 m1-2 ≡ m1-3
 unfolding m1-2 m1-3 b1-0 b1-1 b1-2 b1-3 b1-4 b1-5 b0-6 b0-7 b1-6 b1-7 fillSliceOf fillSegmentOf fillOf newOf wordOf addressOf block put referenceColumn areaStart place area finishedLength referenceLane previousColumn segmentLength compressQuick compressBy xorsBy columnsOf rowsOf registers permutationBy quarterAtBy quarterBy multiplyAdd rotr table quick nibbles nibble pairs
 slice-1-3 = refl
-
-all : fillAllOf compressQuick (xorsBy quick) params m0-0 ≡ m1-3
-unfolding fillAllOf fillPassOf
-all = rw (slice-0-0, slice-0-1, slice-0-2, slice-0-3, slice-1-0, slice-1-1, slice-1-2, slice-1-3)
 
 tagged : tagBy (longBy quick) (xorsBy quick) params 32 m1-3 ≡ tag
 unfolding m1-3 b1-0 b1-1 b1-2 b1-3 b1-4 b1-5 b1-6 b1-7 tagBy lastOf block segmentLength xorsBy longBy joinedBy pieces halves blake2bBy chainBy before parameter initial Rattle.blake2b.specs.Blake2b.block pad wordsOf FBy foldBy local flips mixedBy roundBy GBy turnBy sum row rotr numberAt table quick nibbles nibble pairs
 tagged = refl
 
 pub argon2d-two-passes : argon2 params 32 password salt [] [] ≡ tag
-unfolding argon2Of startOf segmentLength
-argon2d-two-passes = argon2-quick params 32 password salt [] [] ∙ rw (hash, first-0, first-1, laid, all, tagged)
+argon2d-two-passes =
+    two-passes d v13 hash first-0 first-1 laid slice-0-1 slice-0-2 slice-0-3 slice-1-0 slice-1-1 slice-1-2 slice-1-3 tagged

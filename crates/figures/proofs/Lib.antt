@@ -1,6 +1,9 @@
 pub mod D
+pub mod D16
 pub mod Digests
 pub mod FirstBlock
 pub mod I
 pub mod Id
 pub mod Inputs
+pub mod TwoPasses
+pub mod VariableHash

@@ -1,4 +1,5 @@
 -- `blake2b::hash` meets its contract: a refusal returns before anything is written, else begin, feed, end, and a copy. Assumes nothing.
+use Prim.Native.Nat.{ℕ}
 use mathlib.Core.Path.{_≡_, sym, _∙_}
 use native.Mathlib.Nat.{le-of-eq}
 use native.Mathlib.Omega.{arith}
@@ -13,30 +14,33 @@ use Rattle.blake2b.proofs.Hashing.{ended, front}
 use Rattle.blake2b.proofs.hash.Statement.{statement}
 use Rattle.blake2b.proofs.hash.Tie as tie
 
+-- the number of the answer
+abbrev answer : tie.Start → ℕ
+answer s = first (lengthRows 1 maxOutput (length (s .args .out .now)))
+
+numbered : (c : tie.After-number) → c .number .result ≡ answer (c .before .before .before .before)
+numbered c = c .number .ensures .result ∙ c .before .check-length .ensures .answer
+
+accepted : (c : tie.Else1) → answer (c .before .before .before .before .before) ≡ 0
+accepted c = omega (arith, numbered (c .before), c .if1 .left)
+
 returns : tie.Need-returns
 returns c =
-    let n = c .before .number in
-    let a = c .before .before .check-length in
-    let s = c .before .before .before .before .before .args in
+    let s = c .before .before .before .before .before in
+    let a = s .args in
+    let refused : answer s ≡ 0 → ⊥ = λ z. omega (arith, numbered (c .before), c .if1 .taken, z) in
     record {
-      answer = a .ensures .answer;
-      output =
-          sym
-          (left-old (first (lengthRows 1 maxOutput (length (s .out .now)))) (blake2b (length (s .out .now)) (s .input .now)) (s .out .now)
-          (λ e. c .if1 .taken (n .ensures .result ∙ a .ensures .answer ∙ e)));
+      answer = c .before .before .check-length .ensures .answer;
+      output = sym (left-old (answer s) (blake2b (length (a .out .now)) (a .input .now)) (a .out .now) refused);
     }
 
--- the length's answer, past the test
-passes : (c : tie.Else1) → first (lengthRows 1 maxOutput (length (c .before .before .before .before .before .args .out .now))) ≡ 0
-passes c = sym (c .before .before .check-length .ensures .answer) ∙ sym (c .before .number .ensures .result) ∙ c .if1 .left
-
--- .. so that the digest has as many bytes
+-- an accepted length is at most the digest's
 front-length : (c : tie.After-end)
     → (let n = length (c .before .before .before .before .before .before .before .before .before .args .out .now) in length (take n (c .end .result)) ≡ n)
 front-length c =
     let n = length (c .before .before .before .before .before .before .before .before .before .args .out .now) in
     let d : length (c .end .result) ≡ maxOutput = search needs in
-    length-take-le n (c .end .result) (omega (arith, between 1 maxOutput n (passes (c .before .before .before .before)) .1))
+    length-take-le n (c .end .result) (omega (arith, between 1 maxOutput n (accepted (c .before .before .before .before)) .1))
 
 slice-aggregate-copy : tie.Need-slice-aggregate-copy
 slice-aggregate-copy c = sym (front-length (c .before .before))
@@ -57,7 +61,7 @@ returns-2 c =
           ∙ front (length (a .out .now)) (a .input .now)
           (ended (length (a .out .now)) (a .input .now) (d .before .before .before .initial .ensures .result)
           (d .before .before .begin .ensures .result) (d .before .feed .ensures .result) (d .end .ensures .result))
-          ∙ sym (left-new (first (lengthRows 1 maxOutput (length (a .out .now)))) _ _ (passes t));
+          ∙ sym (left-new (first (lengthRows 1 maxOutput (length (a .out .now)))) _ _ (accepted t));
     }
 
 pub hash-spec : {M : Type 1} → statement M

@@ -22,24 +22,28 @@ Inv-loop input out₀ n a v₀ at₀ out v at = (at ≤ n) × (length out ≡ n)
 abbrev μ-loop : tie.MeasureT-loop
 μ-loop input out₀ n a v₀ at₀ out v at = n - at
 
+-- the number of the answer
+abbrev answer : tie.Start Inv-loop μ-loop → ℕ
+answer s = first (lengthRows 1 maxLength (length (s .args .out .now)))
+
+numbered : (c : tie.After-number Inv-loop μ-loop) → c .number .result ≡ answer (c .before .before .before .before)
+numbered c = c .number .ensures .result ∙ c .before .check-length .ensures .answer
+
+accepted : (c : tie.Else1 Inv-loop μ-loop) → answer (c .before .before .before .before .before) ≡ 0
+accepted c = omega (arith, numbered (c .before), c .if1 .left)
+
 returns : tie.Need-returns Inv-loop μ-loop
 returns c =
-    let a = c .before .before .check-length in
-    let s = c .before .before .before .before .before .args in
+    let s = c .before .before .before .before .before in
+    let a = s .args in
+    let refused : answer s ≡ 0 → ⊥ = λ z. omega (arith, numbered (c .before), c .if1 .taken, z) in
     record {
-      answer = a .ensures .answer;
-      output =
-          sym
-          (left-old (first (lengthRows 1 maxLength (length (s .out .now)))) (long (length (s .out .now)) (s .input .now)) (s .out .now)
-          (λ e. c .if1 .taken (c .before .number .ensures .result ∙ a .ensures .answer ∙ e)));
+      answer = c .before .before .check-length .ensures .answer;
+      output = sym (left-old (answer s) (long (length (a .out .now)) (a .input .now)) (a .out .now) refused);
     }
 
--- the length's answer, past the test
-passes : (c : tie.Else1 Inv-loop μ-loop) → first (lengthRows 1 maxLength (length (c .before .before .before .before .before .args .out .now))) ≡ 0
-passes c = sym (c .before .before .check-length .ensures .answer) ∙ sym (c .before .number .ensures .result) ∙ c .if1 .left
-
 cast-to-le32 : tie.Need-cast-to-le32 Inv-loop μ-loop
-cast-to-le32 c = omega (arith, between 1 maxLength (length (c .before .before .before .before .before .args .out .now)) (passes c) .1)
+cast-to-le32 c = omega (arith, between 1 maxLength (length (c .before .before .before .before .before .args .out .now)) (accepted c) .1)
 
 loop-holds : tie.Need-loop-holds Inv-loop μ-loop
 loop-holds c =
@@ -61,7 +65,7 @@ loop-holds c =
 add-at : tie.Need-add-at Inv-loop μ-loop
 add-at c =
     let t = c .before .before .before .before .before .before .before .before .before .before .before .before .before .before in
-    omega (arith, c .before .before .before .before .loop-test .taken, between 1 maxLength (length (t .before .before .before .before .before .args .out .now)) (passes t) .1)
+    omega (arith, c .before .before .before .before .loop-test .taken, between 1 maxLength (length (t .before .before .before .before .before .args .out .now)) (accepted t) .1)
 
 loop-again : tie.Need-loop-again Inv-loop μ-loop
 loop-again c =
@@ -86,7 +90,7 @@ returns-2 c =
       output =
           c .before .before .put2 .ensures
           ∙ all-on (l .out) (l .at) (n - l .at) (l .inv .2) (omega arith) (omega arith)
-          ∙ sym (left-new (first (lengthRows 1 maxLength n)) (long n (s .input .now)) (s .out .now) (passes t));
+          ∙ sym (left-new (first (lengthRows 1 maxLength n)) (long n (s .input .now)) (s .out .now) (accepted t));
     }
 
 pub blake2b-long-spec : {M : Type 1} → statement M
