@@ -18,10 +18,14 @@ pub quartered : (a b c d : ℕ) {a1 d1 c1 b1 a2 d2 c2 b2 : ℕ}
 unfolding quarter
 quartered a b c d e₁ e₂ e₃ e₄ e₅ e₆ e₇ e₈ = cc
 
--- where the words of the four diagonals stand
+-- the words of the four diagonals where they stand, four rows of four
 abbrev pub rejoined : List ℕ → List ℕ → List ℕ → List ℕ → List ℕ
 rejoined d0 d1 d2 d3 =
-    getD d0 0 0 ∷ getD d1 0 0 ∷ getD d2 0 0 ∷ getD d3 0 0 ∷ getD d3 1 0 ∷ getD d0 1 0 ∷ getD d1 1 0 ∷ getD d2 1 0 ∷ getD d2 2 0 ∷ getD d3 2 0 ∷ getD d0 2 0 ∷ getD d1 2 0 ∷ getD d1 3 0 ∷ getD d2 3 0 ∷ getD d3 3 0 ∷ getD d0 3 0 ∷ []
+    getD d0 0 0 ∷ getD d1 0 0 ∷ getD d2 0 0 ∷ getD d3 0 0
+    ∷ getD d3 1 0 ∷ getD d0 1 0 ∷ getD d1 1 0 ∷ getD d2 1 0
+    ∷ getD d2 2 0 ∷ getD d3 2 0 ∷ getD d0 2 0 ∷ getD d1 2 0
+    ∷ getD d1 3 0 ∷ getD d2 3 0 ∷ getD d3 3 0 ∷ getD d0 3 0
+    ∷ []
 
 -- the words of the permutation, each by the steps on columns and on diagonals that make it
 unfoldable worked : (ℕ → ℕ) → List ℕ

@@ -16,10 +16,11 @@ returns c =
     let c2 = c3 .before in
     let c1 = c2 .before in
     let c0 = c1 .before in
-    let whole : length (c0 .before .args .t1) ≡ rowWords = c0 .before .good .0 .1 .0 .1 in
+    let words = c0 .before .args .t1 in
+    let whole : length words ≡ rowWords = c0 .before .good .0 .1 .0 .1 in
     record {
       result =
-          eight-steps _ whole (c0 .quarter .ensures) (c1 .quarter2 .ensures) (c2 .quarter3 .ensures) (c3 .quarter4 .ensures)
+          eight-steps words whole (c0 .quarter .ensures) (c1 .quarter2 .ensures) (c2 .quarter3 .ensures) (c3 .quarter4 .ensures)
           (d0 .quarter5 .ensures) (d1 .quarter6 .ensures) (d2 .quarter7 .ensures) (c .quarter8 .ensures);
     }
 
