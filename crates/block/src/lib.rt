@@ -1,5 +1,6 @@
 // Argon2's block and its compression (RFC 9106, sections 3.5 and 3.6).
 ghost use mathlib.Core.Path.{_≡_};
+ghost use mathlib.Core.List.{[], _∷_};
 ghost use lib.Bits.{bitXor};
 ghost use lib.ListN.{length};
 ghost use Rattle.word.specs.Word.{rotr};
@@ -56,9 +57,17 @@ fn turn4(x: u64, y: u64) -> u64
     rotr63(x ^ y)
 }
 
+// The four words of a quarter step.
+struct Four {
+    a: u64,
+    b: u64,
+    c: u64,
+    d: u64,
+}
+
 // The quarter step: four words after it.
-fn quarter(a: u64, b: u64, c: u64, d: u64) -> [u64; 4]
-    ensures { λ r. ⌜ r ≡ spec.quarter a b c d ⌝ }
+fn quarter(a: u64, b: u64, c: u64, d: u64) -> Four
+    ensures { λ r. ⌜ r .a ∷ r .b ∷ r .c ∷ r .d ∷ [] ≡ spec.quarter a b c d ⌝ }
 {
     let a1 = multiply_add(a, b);
     let d1 = turn1(d, a1);
@@ -68,35 +77,44 @@ fn quarter(a: u64, b: u64, c: u64, d: u64) -> [u64; 4]
     let d2 = turn3(d1, a2);
     let c2 = multiply_add(c1, d2);
     let b2 = turn4(b1, c2);
-    [a2, b2, c2, d2]
+    Four {
+        a: a2,
+        b: b2,
+        c: c2,
+        d: d2,
+    }
 }
 
-// The quarter step at four places of sixteen words.
-fn quarter_at(words: [u64; Block::ROW], a: usize, b: usize, c: usize, d: usize) -> [u64; Block::ROW]
-    requires { ⌜ (a < spec.rowWords) × (b < spec.rowWords) × (c < spec.rowWords) × (d < spec.rowWords) ⌝ }
-    ensures { λ r. ⌜ r ≡ spec.quarterAt words a b c d ⌝ }
-{
-    let mut v = words;
-    let q = quarter(v[a], v[b], v[c], v[d]);
-    v[a] = q[0];
-    v[b] = q[1];
-    v[c] = q[2];
-    v[d] = q[3];
-    v
-}
-
-// The permutation P of sixteen words.
+// The permutation P of sixteen words, four rows of four: a quarter step on each column, then on each diagonal.
 pub fn permute(words: [u64; Block::ROW]) -> [u64; Block::ROW]
     ensures { λ r. ⌜ PermutePromise words r ⌝ }
 {
-    let v1 = quarter_at(words, 0, 4, 8, 12);
-    let v2 = quarter_at(v1, 1, 5, 9, 13);
-    let v3 = quarter_at(v2, 2, 6, 10, 14);
-    let v4 = quarter_at(v3, 3, 7, 11, 15);
-    let v5 = quarter_at(v4, 0, 5, 10, 15);
-    let v6 = quarter_at(v5, 1, 6, 11, 12);
-    let v7 = quarter_at(v6, 2, 7, 8, 13);
-    quarter_at(v7, 3, 4, 9, 14)
+    let c0 = quarter(words[0], words[4], words[8], words[12]);
+    let c1 = quarter(words[1], words[5], words[9], words[13]);
+    let c2 = quarter(words[2], words[6], words[10], words[14]);
+    let c3 = quarter(words[3], words[7], words[11], words[15]);
+    let d0 = quarter(c0.a, c1.b, c2.c, c3.d);
+    let d1 = quarter(c1.a, c2.b, c3.c, c0.d);
+    let d2 = quarter(c2.a, c3.b, c0.c, c1.d);
+    let d3 = quarter(c3.a, c0.b, c1.c, c2.d);
+    [
+        d0.a,
+        d1.a,
+        d2.a,
+        d3.a,
+        d3.b,
+        d0.b,
+        d1.b,
+        d2.b,
+        d2.c,
+        d3.c,
+        d0.c,
+        d1.c,
+        d1.d,
+        d2.d,
+        d3.d,
+        d0.d,
+    ]
 }
 
 // Where word k of a line of registers stands: the line has register first, and each step-th after it.
