@@ -1,4 +1,7 @@
 // Document 01's address blocks: which segments take their random words from them, and which word is whose.
+
+#![tactic(auto)]
+
 ghost use Rattle.address.specs.Promises.{AddressedPromise, AddressBlockPromise, AddressCounterPromise, AddressWordPromise};
 
 use block::Block;

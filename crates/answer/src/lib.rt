@@ -1,7 +1,10 @@
 // Document 01's table of answers.
+
+#![tactic(auto)]
+
 ghost use Rattle.answer.specs.Promises.{NumberPromise, CheckLengthPromise};
 
-#[derive(Drop)]
+#[derive(Clone, Copy)]
 pub enum Answer {
     Accepted,
     AlgorithmInvalid,

@@ -1,4 +1,7 @@
 // Argon2 (RFC 9106), one block a call, in memory that the caller lends.
+
+#![tactic(auto)]
+
 ghost use Rattle.argon2.specs.Promises.{StartPromise, StepPromise, FinishPromise, HashPromise, FillMemoryPromise};
 
 use answer::Answer;
@@ -10,7 +13,7 @@ use memory::{first_blocks, write_tag};
 use params::Params;
 use position::LaneNumber;
 
-#[derive(Drop)]
+#[derive(Clone, Copy)]
 pub struct Started {
     pub answer: Answer,
     pub job: Job,

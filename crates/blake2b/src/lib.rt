@@ -1,4 +1,7 @@
 // BLAKE2b (RFC 7693), unkeyed: an engine that takes a message in pieces, without limits, and the hash of one slice.
+
+#![tactic(auto)]
+
 ghost use Rattle.std.specs.Prelude.{◌≡◌};
 ghost use Rattle.blake2b.specs.Blake2b.{parameter};
 ghost use Rattle.blake2b.specs.Promises.{InitialPromise, BeginPromise, FeedPromise, EndPromise, HashPromise};
@@ -7,7 +10,7 @@ use answer::{Answer, check_length};
 use blake2b_compression::{Compression, Count, compress};
 use word::store_words;
 
-#[derive(Drop)]
+#[derive(Clone, Copy)]
 pub struct Engine {
     h: [u64; Compression::STATE],
     buffer: [u8; Compression::BLOCK],

@@ -1,4 +1,7 @@
 // The compression function F of BLAKE2b (RFC 7693, 3.2), and the count of bytes that it takes.
+
+#![tactic(auto)]
+
 mod mixing;
 
 ghost use Rattle.std.specs.Prelude.{◌≡◌, ◌+◌, ◌*◌, ◌^◌};
@@ -10,7 +13,7 @@ use std::num::wrapping_add_u64;
 use word::load_words;
 
 // The tables and the sizes of the compression.
-#[derive(Drop)]
+#[derive(Clone, Copy)]
 pub struct Compression;
 
 impl Compression {
@@ -121,7 +124,7 @@ pub fn compress(
 }
 
 // A count of bytes, of 128 bits.
-#[derive(Drop)]
+#[derive(Clone, Copy)]
 pub struct Count {
     pub low: u64,
     pub high: u64,

@@ -1,4 +1,7 @@
 // The variable-length hash H' (RFC 9106, 3.3).
+
+#![tactic(auto)]
+
 ghost use Rattle.std.specs.Prelude.{◌≡◌, ◌+◌, ◌≤◌, min, length};
 ghost use Rattle.std.proofs.Math.Seq.{paste};
 ghost use Rattle.word.specs.Word.{bytes};

@@ -1,4 +1,7 @@
 // Argon2's block and its compression (RFC 9106, sections 3.5 and 3.6).
+
+#![tactic(auto)]
+
 ghost use Rattle.std.specs.Prelude.{◌≡◌, ℕ, ◌+◌, ◌*◌, ◌<◌, [], ◌∷◌, length, bit_xor};
 ghost use Rattle.word.specs.Word.{rotr};
 ghost use Rattle.block.specs.Block as spec;
@@ -8,7 +11,7 @@ ghost use Rattle.block.specs.Promises.{PermutePromise, NewPromise, FromBytesProm
 use word::{WORD, load_words, low_half, rotr16, rotr24, rotr32, rotr63, store_words};
 
 // A block of memory, as words.
-#[derive(Drop)]
+#[derive(Clone, Copy)]
 pub struct Block {
     pub words: [u64; Block::WORDS],
 }
@@ -49,7 +52,7 @@ fn turn4(x: u64, y: u64) -> u64
 }
 
 // The four words of a quarter step.
-#[derive(Drop)]
+#[derive(Clone, Copy)]
 struct Four {
     a: u64,
     b: u64,

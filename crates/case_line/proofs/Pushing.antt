@@ -7,7 +7,7 @@ use native.Mathlib.Omega.{arith}
 use borrow.Author.Tests.{lt-ltb, le-ltb}
 use lib.ListN.{length, take, drop, get_or, set, length-append, length-drop}
 use lib.Seq.{drop-cons, drop-drop, drop-append_seam, drop-append-add, set-append_seam, take_all, take-length, take-suc}
-use Rattle.hex.specs.Hex.{hex_of, hex_digits}
+use Rattle.hex_text.specs.Hex.{hex_of, hex_digits}
 use Rattle.case_line.specs.Lines.{tag_word, newline, tag_text, numbered_text, on_line, Written}
 
 -- all of a list was copied to the start of a line

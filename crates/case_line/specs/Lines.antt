@@ -1,6 +1,6 @@
 -- Document 01, "The program and the host": the line that answers a case, in bytes.
 use Rattle.std.specs.Prelude.{ℕ, ◌+◌, ◌*◌, ◌/◌, ◌%◌, cond, List, [], ◌∷◌, ◌++◌, ◌≡◌, ltb, length, drop}
-use Rattle.hex.specs.Hex.{hex_digits}
+use Rattle.hex_text.specs.Hex.{hex_digits}
 use Rattle.case_line.specs.Cases.{max_tag}
 
 -- "tag ", "refused " and "bad input "

@@ -1,4 +1,7 @@
 // Document 01's program: one case from bytes, and its answer as one line of text.
+
+#![tactic(auto)]
+
 mod sections;
 mod text;
 

@@ -6,20 +6,20 @@ ghost use Rattle.case_line.specs.Promises.{ParsePromise};
 use params::Params;
 
 // A part of the input: from start up to end.
-#[derive(Drop)]
+#[derive(Clone, Copy)]
 pub struct Span {
     pub start: usize,
     pub end: usize,
 }
 
 // A section's bytes, or what cannot be read.
-#[derive(Drop)]
+#[derive(Clone, Copy)]
 pub enum Section {
     Body(Span),
     Cut,
 }
 
-#[derive(Drop)]
+#[derive(Clone, Copy)]
 pub struct Case {
     pub params: Params,
     // The tag's length.
@@ -31,7 +31,7 @@ pub struct Case {
 }
 
 // A well-formed case, or the first section that is bad.
-#[derive(Drop)]
+#[derive(Clone, Copy)]
 pub enum Parsed {
     Good(Case),
     Bad(u32),

@@ -27,7 +27,7 @@ pub(crate) fn write_tag(tag: &[u8], line: &mut [u8]) -> usize
     let mut end = bytes::copy(b"tag ", line);
     let mut i = 0;
     while i < tag.len() {
-        let pair = hex::digits(tag[i]);
+        let pair = hex_text::digits(tag[i]);
         line[end] = pair[0];
         line[end + 1] = pair[1];
         end += 2;

@@ -1,5 +1,8 @@
 // Document 01's rows on the inputs of a call, in its order, over a rule. Lengths are numbers of bytes. The memory's is a number of
 // what is lent, and the unit is how many of them a block has.
+
+#![tactic(auto)]
+
 ghost use Rattle.std.specs.Prelude.{◌≡◌};
 ghost use Rattle.answer.specs.Answers.{number, first, if_accepted};
 ghost use Rattle.checks.specs.Rows.{extra_rows, input_rows};
@@ -14,7 +17,7 @@ use word::MAX_LENGTH;
 pub const WORDS: u32 = Block::WORDS as u32;
 
 // What a call asks of its version and its salt.
-#[derive(Drop)]
+#[derive(Clone, Copy)]
 pub struct Rule {
     // The oldest version that is taken.
     pub oldest: u32,

@@ -1,4 +1,7 @@
 // The C boundary (host/crabuledda.h): numbers pass as themselves, a slice as a pointer and then a length.
+
+#![tactic(auto)]
+
 ghost use Rattle.crabuledda.specs.Promises.{CrabuleddaHashPromise, CrabuleddaFillMemoryPromise, CrabuleddaLongPromise};
 ghost use Rattle.params.specs.Limits.{from_numbers};
 

@@ -1,4 +1,7 @@
 // Document 01's rules of filling: one block, some of a segment, and all of them in the order of RFC 9106.
+
+#![tactic(auto)]
+
 ghost use Rattle.std.specs.Prelude.{true, false, ◌≡◌, ◌<◌, get_or, length};
 ghost use Rattle.params.specs.Limits.{slices, segment};
 ghost use Rattle.address.specs.Address.{addressed};

@@ -1,4 +1,7 @@
 // Document 01's program: one case from standard input, 56 blocks of memory lent, one line to standard output.
+
+#![tactic(auto)]
+
 use block::Block;
 use case_line::Case;
 use libc::{STDIN_FILENO, STDOUT_FILENO};

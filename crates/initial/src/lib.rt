@@ -1,4 +1,7 @@
 // The initial hash (RFC 9106, 3.2), and the words of the blocks that each lane begins with.
+
+#![tactic(auto)]
+
 ghost use Rattle.std.specs.Prelude.{◌++◌, ◌≡◌, ◌+◌, ◌≤◌, length, take, drop};
 ghost use Rattle.blake2b.specs.Stream.{feed_all};
 ghost use Rattle.initial.specs.Initial.{le32, counted, header};

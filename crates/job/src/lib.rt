@@ -1,4 +1,7 @@
 // Document 01's job: the accepted numbers, the place in the filling and one position for each lane.
+
+#![tactic(auto)]
+
 ghost use Rattle.std.specs.Prelude.{leb, ltb, get_or, replicate, ◌&&◌, ◌||◌, ◌++◌, ◌≡◌, ◌-◌, ◌<◌, ◌≤◌};
 ghost use Rattle.params.specs.Limits.{max_lanes, slices, segment};
 ghost use Rattle.job.specs.Jobs as spec;
@@ -9,7 +12,7 @@ use checks::{WORDS, check_output, too_little};
 use params::{Configured, Params};
 use position::{LaneNumber, first_block};
 
-#[derive(Drop)]
+#[derive(Clone, Copy)]
 pub struct Job {
     pub params: Params,
     // The tag's length.
@@ -20,7 +23,7 @@ pub struct Job {
     pub positions: [u32; Job::LANES],
 }
 
-#[derive(Drop)]
+#[derive(Clone, Copy)]
 pub struct Stepped {
     pub answer: Answer,
     pub job: Job,

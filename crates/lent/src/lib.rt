@@ -1,4 +1,7 @@
 // Lent memory as the recorded runs have it: what it holds before a call, by a rule, and a digest of what it holds after.
+
+#![tactic(auto)]
+
 ghost use Rattle.std.specs.Prelude.{◌≡◌, ◌*◌, ◌%◌, ◌^◌, take};
 ghost use Rattle.lent.specs.Lent.{mixed, drawn, digest_bytes};
 ghost use Rattle.lent.specs.Promises.{DirtyPromise, DirtyBytesPromise, DigestPromise};

@@ -1,4 +1,7 @@
 // The lent words: one block read and written, the blocks that each lane begins with, and the tag of what the lanes end with.
+
+#![tactic(auto)]
+
 ghost use Rattle.std.specs.Prelude.{◌≡◌, ◌<◌, length};
 ghost use Rattle.params.specs.Limits.{segment};
 ghost use Rattle.memory.specs.Lent.{Lent};

@@ -1,4 +1,7 @@
 // Document 01's numbers: the parameters, their limits and the sizes that they give.
+
+#![tactic(auto)]
+
 ghost use Rattle.params.specs.Promises.{CostsPromise, CheckNumbersPromise, CheckFromPromise, CheckPromise, SegmentOfPromise, SegmentPromise, LanePromise, BlocksPromise, FromNumbersPromise};
 ghost use Rattle.std.specs.Prelude.{◌≡◌};
 ghost use Rattle.params.specs.Limits.{configured_of};
@@ -6,7 +9,7 @@ ghost use Rattle.params.specs.Limits.{configured_of};
 use answer::Answer;
 
 // A configured tag length: absent, or a number.
-#[derive(Drop)]
+#[derive(Clone, Copy)]
 pub enum Configured {
     Absent,
     Length(u32),
@@ -23,7 +26,7 @@ fn configured_of(n: u32) -> Configured
     }
 }
 
-#[derive(Drop)]
+#[derive(Clone, Copy)]
 pub struct Params {
     pub algorithm: u32,
     pub version: u32,

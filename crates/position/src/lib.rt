@@ -1,4 +1,7 @@
 // Where a block lies, and which block it refers to: document 01's reference position.
+
+#![tactic(auto)]
+
 ghost use Rattle.std.specs.Prelude.{◌≡◌, ◌+◌, ◌-◌, ◌*◌, ◌%◌, ◌≤◌, ◌<◌};
 ghost use Rattle.params.specs.Limits.{slices, max_memory};
 ghost use Rattle.position.specs.Position as spec;
@@ -9,11 +12,11 @@ use params::Params;
 use word::{HALF, high_half, low_half};
 
 // A lane's number.
-#[derive(Drop)]
+#[derive(Clone, Copy)]
 pub struct LaneNumber(pub u32);
 
 // A block's number within its lane: its column.
-#[derive(Drop)]
+#[derive(Clone, Copy)]
 pub struct BlockNumber(pub u32);
 
 impl BlockNumber {
@@ -26,7 +29,7 @@ impl BlockNumber {
 }
 
 // A reference position: an answer, and the lane and the block within it.
-#[derive(Drop)]
+#[derive(Clone, Copy)]
 pub struct Reference {
     pub answer: Answer,
     pub lane: LaneNumber,

@@ -19,7 +19,7 @@ const SEED: u64 = 88_172_645_463_325_252;
 const WORD: usize = Block::SIZE / Block::WORDS;
 
 // A block of drawn words, and the generator's state after them.
-#[derive(Drop)]
+#[derive(Clone, Copy)]
 struct Drawn {
     block: Block,
     seed: u64,
@@ -84,7 +84,7 @@ fn bytes(b: Block) -> [u8; Block::SIZE] {
 fn print(name: &[u8], b: Block) {
     let bytes = bytes(b);
     let mut text = [0u8; 2 * Block::SIZE];
-    let count = hex::write(&bytes, &mut text);
+    let count = hex_text::write(&bytes, &mut text);
     io::write_all(STDOUT_FILENO, name);
     io::write_all(STDOUT_FILENO, &text[..count]);
     io::write_all(STDOUT_FILENO, b"\n");

@@ -9,7 +9,7 @@ pub(crate) const NUMBERS: usize = 12;
 pub(crate) const LINE: usize = 0;
 
 // A text of a case: its bytes, and how many they are.
-#[derive(Drop)]
+#[derive(Clone, Copy)]
 pub(crate) struct Text {
     pub(crate) bytes: [u8; Text::MOST],
     pub(crate) count: usize,

@@ -3,6 +3,9 @@
 // variable-length hashes and reference positions from oracle/record, which asks the crate, and a plain copy of document 01
 // where the crate means something else (oracle/README.md); the steps and finishes from that copy. oracle/pack lays these lists
 // into data/.
+
+#![tactic(auto)]
+
 mod blocks;
 mod hashes;
 mod jobs;

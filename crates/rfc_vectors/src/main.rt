@@ -1,12 +1,15 @@
 // Prints BLAKE2b and variable-length hashes of counting bytes, and RFC 7693's appendix A, in lower-case hex.
 // The file stdout has what another implementation gives (oracle/vectors.py).
+
+#![tactic(auto)]
+
 mod argon;
 
 ghost use Rattle.std.specs.Prelude.{◌<◌};
 
 use blake2b::hash;
 use blake2b_long::blake2b_long;
-use hex::digits;
+use hex_text::digits;
 use libc::STDOUT_FILENO;
 
 // The lengths of the messages, of the hashes, and of the variable-length hashes.

@@ -1,4 +1,7 @@
 // Demand 3: steps of the lanes in any order, and what follows of them.
+
+#![tactic(auto)]
+
 ghost use Rattle.turns.specs.Promises.{PlayPromise};
 
 use argon2::Job;

@@ -1,4 +1,7 @@
 // Words of 64 bits: rotation, the little-endian order of their bytes, and their halves.
+
+#![tactic(auto)]
+
 ghost use Rattle.std.specs.Prelude.{get_or, ◌≡◌, ◌*◌};
 ghost use Rattle.word.specs.Promises.{RotatePromise, FromLePromise, LoadPromise, ToLePromise, LoadWordsPromise, StoreWordsPromise, LowHalfPromise, HighHalfPromise};
 ghost use Rattle.word.specs.Word.{word_bytes, word_at, to_le};

@@ -6,7 +6,7 @@ use mathlib.Core.Path.{◌≡◌, refl}
 use native.Mathlib.Omega.{arith}
 use borrow.Author.Rules.{rules}
 use lib.ListN.{length, take, get_or, length-set}
-use Rattle.hex.specs.Hex.{hex_digits}
+use Rattle.hex_text.specs.Hex.{hex_digits}
 use Rattle.case_line.specs.Lines.{tag_word, newline, Written}
 use Rattle.case_line.proofs.Pushing.{copied, pushed, again, longer, renamed, tag_more, tag_end}
 use Rattle.case_line.proofs.text.write_tag.Statement.{statement}

@@ -1,0 +1,10 @@
+-- `hex_text::digit` meets its contract, a branch for each case of the digit. Assumes nothing.
+use native.Mathlib.Omega.{arith}
+use borrow.Author.Tests.{lt-ltb, le-ltb}
+use Rattle.hex_text.proofs.digit.Goals as goal
+
+pub returns-then-n-lt10 : goal.returns-then-n-lt10
+returns-then-n-lt10 c = rw (lt-ltb c.args.n 10 (omega arith))
+
+pub returns-else-n-lt10 : goal.returns-else-n-lt10
+returns-else-n-lt10 c = rw (le-ltb c.args.n 10 (omega arith))
