@@ -125,6 +125,6 @@ pub fn hash(input: &[u8], out: &mut [u8]) -> Answer
     let s = s.feed(input);
     let d = s.end();
     let whole = &d[..];
-    bytes::copy(&whole[..n], out);
+    out.copy_from_slice(&whole[..n]);
     a
 }

@@ -41,7 +41,7 @@ fn put(v: [u8; Engine::MAX_OUTPUT], n: usize, out: &mut [u8], at: usize)
     ensures { out.new ≡ paste out.old at v n }
 {
     let whole = &v[..];
-    bytes::copy(&whole[..n], &mut out[at..]);
+    out[at..at + n].copy_from_slice(&whole[..n]);
 }
 
 // The hash of the input, of as many bytes as out has: 1 to 2^32 - 1.

@@ -1,6 +1,6 @@
 -- Lines of registers, once for rows and columns: where a line's words stand, a line laid down word by word, and line after line.
 -- A block every line of which is P of another's is that block's `rows`, or its `columns`. Assumes nothing.
-use Rattle.std.proofs.Common.{◌≡◌, ℕ, ◌+◌, ◌-◌, ◌*◌, ◌/◌, ◌%◌, ◌<◌, ◌≤◌, ◌⊎◌, List, length, get_or, set, sym, ap, ◌∙◌, ap₂, ⊎_elim, eq-or-lt_of_le, mul-le-mul_left, one-mul, arith, length-set, get_or-set_other, get_or-set_same}
+use Rattle.std.proofs.Common.{◌≡◌, ℕ, ◌+◌, ◌-◌, ◌*◌, ◌/◌, ◌%◌, ◌<◌, ◌≤◌, List, length, get_or, set, sym, ap, ◌∙◌, ap₂, ⊎_elim, eq-or-lt_of_le, mul-le-mul_left, one-mul, arith, length-set, get_or-set_other, get_or-set_same}
 use mathlib.Core.Path.{subst⁻¹}
 use native.Mathlib.Nat.{eq_of_mul-eq-mul_left}
 use Rattle.word.proofs.Table.{length-table, get_or-table, is_table, same_table}

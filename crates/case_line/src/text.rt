@@ -7,7 +7,8 @@ pub(crate) fn write_number(words: &[u8], n: u32, line: &mut [u8]) -> usize
     requires { (n < 100) × (length words.now + 3 ≤ length line.old) }
     ensures { Written (numbered_text words.now n) line.old line.new result }
 {
-    let end = bytes::copy(words, line);
+    let end = words.len();
+    line[..end].copy_from_slice(words);
     if n < 10 {
         line[end] = b'0' + n as u8;
         line[end + 1] = b'\n';
@@ -24,7 +25,9 @@ pub(crate) fn write_tag(tag: &[u8], line: &mut [u8]) -> usize
     requires { 5 + 2 * length tag.now ≤ length line.old }
     ensures { Written (tag_text tag.now) line.old line.new result }
 {
-    let mut end = bytes::copy(b"tag ", line);
+    let word = b"tag ";
+    let mut end = word.len();
+    line[..end].copy_from_slice(word);
     let mut i = 0;
     while i < tag.len() {
         let pair = hex_text::digits(tag[i]);

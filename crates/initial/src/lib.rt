@@ -86,7 +86,7 @@ fn lay(out: &mut [u8], at: usize, piece: &[u8])
         ++ piece.now
         ++ drop (at + length piece.now) out.old }
 {
-    bytes::copy(piece, &mut out[at..]);
+    out[at..at + piece.len()].copy_from_slice(piece);
 }
 
 // What a first block is hashed from: the initial hash, the block's number and the lane's.

@@ -77,7 +77,7 @@ fn front(hash: [u8; Engine::MAX_OUTPUT]) -> [u8; DIGEST]
 {
     let whole = &hash[..];
     let mut digest = [0u8; DIGEST];
-    bytes::copy(&whole[..DIGEST], &mut digest);
+    digest.copy_from_slice(&whole[..DIGEST]);
     digest
 }
 

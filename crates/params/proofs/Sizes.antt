@@ -1,6 +1,5 @@
 -- Bounds of the sizes, over any memory cost m and any number of lanes p. Assumes nothing.
-use Prim.Native.Nat.{ℕ, ◌≤◌, ◌<◌, ◌*◌, ◌/◌}
-use mathlib.Core.Path.{◌≡◌, ap, sym, ◌∙◌}
+use Prim.Native.Nat.{ℕ, ◌≤◌, ◌*◌, ◌/◌}
 use native.Mathlib.Omega.{arith}
 use native.Mathlib.Nat.{div-le_self, div-div-eq-div-mul, mul-div-le, mul_assoc, mul_comm}
 use Rattle.params.specs.Limits.{segment_length, slices}

@@ -2,11 +2,11 @@
 use Prim.Native.Nat.{ℕ}
 use mathlib.Core.Bool.{Bool, true, false, not, ◌||◌}
 use mathlib.Core.List.{[], ◌∷◌}
-use mathlib.Core.Path.{◌≡◌, refl, sym, ap, ◌∙◌}
+use mathlib.Core.Path.{◌≡◌, refl, ap}
 use native.Mathlib.Omega.{arith}
 use borrow.Author.Tests.{eqb-true, le-ltb}
 use lib.Dec.{eqb, ltb}
-use Rattle.answer.specs.Answers.{Row, ◌when◌}
+use Rattle.answer.specs.Answers.{◌when◌}
 use Rattle.params.specs.Limits.{v10, v13, among, version_invalid}
 
 pub version_plain : (v : ℕ) → version_invalid v10 v ≡ (2 when not (among v (v10 ∷ v13 ∷ [])))

@@ -1,6 +1,6 @@
 -- What accepted parameters are: the limits as facts on numbers, and what they say of the sizes. For the proofs of the crates above.
 -- Assumes nothing.
-use Prim.Native.Nat.{ℕ, ◌≤◌, ◌<◌, ◌*◌, ◌/◌}
+use Prim.Native.Nat.{ℕ, ◌≤◌, ◌*◌}
 use mathlib.Core.List.{[], ◌∷◌}
 use mathlib.Core.Path.{◌≡◌}
 use native.Mathlib.Nat.{le-div_iff_mul-le}

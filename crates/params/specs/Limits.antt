@@ -1,5 +1,5 @@
 -- Document 01, "Domain and sizes" and "Answers": the limits of the parameters, a row each, and the sizes.
-use Rattle.std.specs.Prelude.{ℕ, ◌*◌, ◌/◌, Bool, true, false, cond, not, ◌||◌, List, [], ◌∷◌, ◌++◌, ltb, eqb}
+use Rattle.std.specs.Prelude.{ℕ, ◌*◌, ◌/◌, Bool, false, cond, not, ◌||◌, List, [], ◌∷◌, ◌++◌, ltb, eqb}
 use Rattle.answer.specs.Answers.{Row, ◌when◌}
 use Rattle.params.specs.declared.Configured.{Configured}
 use Rattle.params.specs.declared.Configured.TheVariants.{Absent, Length}

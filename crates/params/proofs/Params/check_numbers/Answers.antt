@@ -3,11 +3,9 @@ use Prim.Native.Nat.{ℕ}
 use mathlib.Core.Bool.{Bool, true, false, not, ◌&&◌, ◌||◌}
 use mathlib.Core.List.{[], ◌∷◌}
 use mathlib.Core.Path.{◌≡◌, refl, ap, ◌∙◌}
-use borrow.Author.Rules.{rules}
 use lib.Dec.{eqb, ltb}
 use Rattle.params.specs.Limits.{d, i, id, v10, v13, among}
-use Rattle.params.proofs.Params.check_numbers.Statement.{statement}
-use Rattle.params.proofs.Params.check_numbers.Tie as tie
+use Rattle.params.proofs.Params.check_numbers.Goals as goal
 
 none_of_three : (x y z : Bool) → not (x || (y || (z || false))) ≡ not x && not y && not z
 none_of_three true y z = refl
@@ -27,23 +25,20 @@ version_row : (oldest v : ℕ) {b : Bool} → not (eqb v v10) && not (eqb v v13)
     → not (among v (v10 ∷ v13 ∷ [])) || ltb v oldest ≡ b
 version_row oldest v e = ap (λ (t : Bool). t || ltb v oldest) (none_of_two (eqb v v10) (eqb v v13)) ∙ e
 
-returns : tie.Need-returns
-returns c = record { answer = rw (algorithm_row c.before.args.self.algorithm c.if1.true) }
+pub returns-then-algorithm : goal.returns-then-algorithm
+returns-then-algorithm c = record { answer = rw (algorithm_row c.args.self.algorithm c.if-algorithm.true) }
 
-returns-2 : tie.Need-returns-2
-returns-2 c =
-    let a = c.before.before.args in
+pub returns-then-version-oldest : goal.returns-then-version-oldest
+returns-then-version-oldest c =
+    let a = c.args in
     record {
-      answer = rw (algorithm_row a.self.algorithm c.before.if1.false, version_row a.oldest a.self.version c.if2.true);
+      answer = rw (algorithm_row a.self.algorithm c.if-algorithm.false, version_row a.oldest a.self.version c.if-version-oldest.true);
     }
 
-returns-3 : tie.Need-returns-3
-returns-3 c =
-    let a = c.before.before.before.args in
+pub returns : goal.returns
+returns c =
+    let a = c.args in
     record {
       answer =
-          rw (algorithm_row a.self.algorithm c.before.before.if1.false, version_row a.oldest a.self.version c.before.if2.false) c.check-costs.ensures.answer;
+          rw (algorithm_row a.self.algorithm c.if-algorithm.false, version_row a.oldest a.self.version c.if-version-oldest.false) c.check_costs.ensures.answer;
     }
-
-pub check-numbers-spec : {M : Type 1} → statement M
-check-numbers-spec = tie.close (tie.spec returns returns-2 (λ c κs. search rules) returns-3)
