@@ -3,13 +3,11 @@
 use Prim.Native.Nat.{ℕ, ◌*◌, ◌/◌, ◌^◌, ◌≤◌, ◌<◌}
 use mathlib.Core.Path.{◌≡◌, subst⁻¹}
 use native.Mathlib.Omega.{arith}
-use borrow.Author.Rules.{rules}
 use Rattle.word.specs.Word.{half, low_half}
 use Rattle.word.proofs.Half.{product_lt}
 use Rattle.position.specs.Position.{place}
 use Rattle.position.proofs.Bound.{share-lt}
-use Rattle.position.proofs.place.Statement.{statement}
-use Rattle.position.proofs.place.Tie as tie
+use Rattle.position.proofs.place.Goals as goal
 
 module _ (x low : ℕ) (e : low ≡ low_half x) where
   square_fits : low * low < 2 ^ 64
@@ -21,20 +19,17 @@ module _ (x low : ℕ) (e : low ≡ low_half x) where
   part-lt : (a : ℕ) → 1 ≤ a → a * (low * low / half) / half < a
   part-lt a h = subst⁻¹ (λ (n : ℕ). a * (n * n / half) / half < a) e (share-lt a x h)
 
-mul-x : tie.Need-overflow-mul-x
-mul-x c = omega (arith, square_fits c.before.args.word c.low_half_lem.result c.low_half_lem.ensures.result)
+pub overflow_mul-x : goal.overflow_mul-x
+overflow_mul-x c = omega (arith, square_fits c.args.word c.low_half-low.result c.low_half-low.ensures.result)
 
-mul-result : tie.Need-overflow-mul-result
-mul-result c =
-    omega (arith, part_fits c.before.args.word c.low_half_lem.result c.low_half_lem.ensures.result c.before.args.area (omega arith))
+pub overflow_mul-result : goal.overflow_mul-result
+overflow_mul-result c =
+    omega (arith, part_fits c.args.word c.low_half-low.result c.low_half-low.ensures.result c.args.area (omega arith))
 
-sub-result-2 : tie.Need-overflow-sub-result-2
-sub-result-2 c =
-    omega (arith, part-lt c.before.args.word c.low_half_lem.result c.low_half_lem.ensures.result c.before.args.area (omega arith))
+pub overflow_sub-result-2 : goal.overflow_sub-result-2
+overflow_sub-result-2 c =
+    omega (arith, part-lt c.args.word c.low_half-low.result c.low_half-low.ensures.result c.args.area (omega arith))
 
-returns : tie.Need-returns
+pub returns : goal.returns
 unfolding place
-returns c = rw c.low_half_lem.ensures.result
-
-pub place-spec : {M : Type 1} → statement M
-place-spec = tie.close (tie.spec (λ c κs. search rules) mul-x (λ c. search rules) mul-result sub-result-2 returns)
+returns c = rw c.low_half-low.ensures.result
