@@ -1,0 +1,25 @@
+-- `job::all_between` meets its contract: the loop has tested each lane before the one that it stands at. Assumes nothing.
+use mathlib.Core.Path.{◌≡◌, refl, sym, ap, ◌∙◌}
+use mathlib.Core.Bool.{Bool, ◌&&◌}
+use Prim.Native.Nat.{ℕ}
+use native.Mathlib.Omega.{arith}
+use Rattle.job.specs.Jobs.{all}
+use Rattle.job.proofs.Tests.{all_one}
+use Rattle.job.proofs.all_between.Invariants.{test}
+use Rattle.job.proofs.all_between.Goals as goal
+
+pub loop-lane-preserved : goal.loop-lane-preserved
+loop-lane-preserved c =
+    let a = c.args in
+    let l : ℕ = c.loop-lane.lane in
+    let f : ℕ → Bool = test a.from a.low a.high a.positions in
+    (omega arith, omega arith, ap (λ (t : Bool). t && f l) c.loop-lane.invariant.2 ∙ sym (all_one l f))
+
+pub returns : goal.returns
+returns c =
+    let a = c.args in
+    let e : c.loop-lane.lane ≡ a.to = omega arith in
+    c.loop-lane.invariant.2 ∙ ap (λ (k : ℕ). all k (test a.from a.low a.high a.positions)) e
+
+pub loop-lane-init : goal.loop-lane-init
+loop-lane-init c = (omega arith, omega arith, refl)
