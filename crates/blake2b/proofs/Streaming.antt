@@ -7,7 +7,7 @@ use mathlib.Core.Path.{◌≡◌, refl, sym, ap, ◌∙◌}
 use native.Mathlib.Decide.{dec_lt}
 use native.Mathlib.Omega.{arith}
 use borrow.Author.Tests.{lt-ltb, le-ltb}
-use lib.ListN.{set, take, drop, length, replicate, length-append, length-drop}
+use lib.ListN.{set, drop, length, replicate, length-append, length-drop}
 use lib.Seq.{take_all, take-append-le, drop-append-le, drop_at, set-append_seam}
 use Rattle.word.specs.Word.{bytes}
 use Rattle.blake2b_compression.specs.Compression.{block_bytes, F, words}

@@ -1,5 +1,5 @@
 -- BLAKE2b, unkeyed, as RFC 7693 defines it over its compression function F: words and bytes are natural numbers, vectors are lists.
-use Rattle.std.specs.Prelude.{ℕ, zero, suc, ◌+◌, ◌-◌, ◌*◌, ◌/◌, ◌^◌, true, false, List, [], ◌∷◌, ◌++◌, length, take, drop, set, replicate}
+use Rattle.std.specs.Prelude.{ℕ, zero, suc, ◌+◌, ◌-◌, ◌*◌, ◌/◌, ◌^◌, true, false, List, ◌++◌, length, take, drop, set, replicate}
 use Rattle.word.specs.Word.{bytes}
 use Rattle.blake2b_compression.specs.Compression.{◌!◌, ◌⊕◌, block_bytes, IV, F, words}
 
