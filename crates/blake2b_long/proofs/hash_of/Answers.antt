@@ -1,0 +1,7 @@
+-- `blake2b_long::hash_of` meets its contract. Assumes nothing.
+use Rattle.blake2b.proofs.Hashing.{ended}
+use Rattle.blake2b_long.proofs.hash_of.Goals as goal
+
+pub returns : goal.returns
+returns c =
+    ended _ _ c.initial.ensures.result c.begin-s.ensures.result c.feed-s.ensures.result c.end.ensures.result
