@@ -1,5 +1,5 @@
 -- Document 01, "Initial hash" (RFC 9106, 3.2): what is hashed first, and the blocks that a lane begins with.
-use Rattle.std.specs.Prelude.{ℕ, List, [], ◌∷◌, ◌++◌, length}
+use Rattle.std.specs.Prelude.{ℕ, List, ◌++◌, length}
 use Rattle.word.specs.Word.{to_le, words_of}
 use Rattle.blake2b.specs.Blake2b.{blake2b}
 use Rattle.blake2b_long.specs.Long.{long}
