@@ -1,5 +1,5 @@
 -- Words fed one by one to a state end in the digest of them all. Assumes nothing.
-use Rattle.std.proofs.Common.{◌≡◌, ℕ, suc, ◌+◌, ◌<◌, ◌≤◌, List, ◌∷◌, ◌++◌, length, get_or, take, drop, sym, refl, ap, ◌∙◌, add-one, drop_of_length-le, drop-cons}
+use Rattle.std.proofs.Common.{◌≡◌, ℕ, ◌+◌, ◌<◌, ◌≤◌, List, ◌∷◌, ◌++◌, length, get_or, take, drop, sym, refl, ap, ◌∙◌, add-one, drop_of_length-le, drop-cons}
 use Rattle.word.specs.Word.{to_le, bytes}
 use Rattle.blake2b.specs.Blake2b.{blake2b, initial}
 use Rattle.blake2b.specs.Stream.{fresh, feed_all, sealed}

@@ -1,5 +1,5 @@
 -- The product that wraps, from products of half words. Assumes nothing.
-use Rattle.std.proofs.Common.{◌≡◌, ℕ, ◌+◌, ◌*◌, ◌/◌, ◌%◌, ◌^◌, ◌<◌, sym, refl, ap, ◌∙◌, ap₂, mul_assoc, mul_comm, add-mul, div-add-mod', mul-add, arith}
+use Rattle.std.proofs.Common.{◌≡◌, ℕ, ◌+◌, ◌*◌, ◌/◌, ◌%◌, ◌^◌, ◌<◌, sym, ap, ◌∙◌, ap₂, mul_assoc, mul_comm, add-mul, div-add-mod', mul-add, arith}
 use native.Mathlib.Nat.{add-mul-mod_self_right, add-mod-mod}
 use Rattle.word.proofs.Half.{product_lt}
 use Rattle.lent.specs.Lent.{step}
