@@ -8,12 +8,11 @@ use native.Mathlib.Omega.{arith}
 use lib.ListN.{length, get_or}
 use Rattle.block.specs.Block.{block_words, xors, compress}
 use Rattle.block.proofs.Laws.{length-xors, length-compress}
-use Rattle.params.specs.Limits.{slices, segment, lane_length, blocks}
+use Rattle.params.specs.Limits.{slices, segment, blocks}
 use Rattle.params.specs.declared.Params.{Params}
 use Rattle.address.specs.Address.{addressed, address_block, address_counter, address_place, addressed_word, random_word}
-use Rattle.position.specs.Position.{column, index, reference}
+use Rattle.position.specs.Position.{column, reference}
 use Rattle.position.proofs.Columns.{column-lt}
-use Rattle.position.proofs.Referring.{index-lt}
 use Rattle.filling.specs.Filling.{current_index, previous_index, word_for, reference_index, new_block, overwrites, stored, stored_block, fill, fill_blocks}
 use Rattle.memory.specs.Loop.{loop}
 use Rattle.memory.specs.Memory.{block, put}

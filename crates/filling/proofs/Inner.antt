@@ -11,7 +11,7 @@ use borrow.Author.Tests.{ltb-true, leb-true, lt-ltb, le-leb}
 use Rattle.answer.specs.Answers.{first}
 use Rattle.params.specs.Limits.{slices, segment}
 use Rattle.params.specs.declared.Params.{Params}
-use Rattle.position.specs.Position.{first_block, column, index, previous_column, reference_lane, reference_column, reference, position_rows}
+use Rattle.position.specs.Position.{first_block, column, previous_column, reference_lane, reference_column, reference, position_rows}
 use Rattle.position.proofs.Accepted.{position_accepted}
 use Rattle.position.proofs.Columns.{column-lt, previous_lt}
 use Rattle.position.proofs.Referring.{ref_lane, ref_column}

@@ -1,6 +1,6 @@
 -- Document 01, "The rules of filling": one block, and all of them in the order of RFC 9106. P are the parameters, r is the pass, sl the
 -- slice, l the lane, k the block within the segment, w the memory.
-use Rattle.std.specs.Prelude.{ℕ, ◌-◌, ◌*◌, Bool, cond, ◌&&◌, ◌||◌, List, leb, ltb, eqb, get_or}
+use Rattle.std.specs.Prelude.{ℕ, ◌-◌, Bool, cond, ◌&&◌, ◌||◌, List, leb, ltb, eqb, get_or}
 use Rattle.block.specs.Block.{compress, xors}
 use Rattle.params.specs.Limits.{slices, segment, v10}
 use Rattle.params.specs.declared.Params.{Params}
