@@ -1,4 +1,5 @@
 /* answer: cases on standard input, a line each, in the protocol of oracle/README.md; writes an answer line for each. */
+#define _POSIX_C_SOURCE 200809L /* getline */
 #include "common.h"
 #include <stdlib.h>
 #include <string.h>

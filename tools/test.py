@@ -3,7 +3,8 @@
 
 The parts run one after the other; each line that a part prints is shown with the time since the start. The first part that
 fails ends the run with its status. What each part says that it compared ("compared: ..") is said again at the end, and a part
-that compares has to say it. The last line of `rt ci`, its count, is kept back and printed as the last line of all.
+that compares has to say it. The last line of `rt ci`, its count, is kept back and printed as the last line of all. Each wrong
+version of must-fail/ has to be refused: one that cannot be applied or read, which `rt ci` lets pass, fails this run.
 """
 import queue
 import re
@@ -11,7 +12,9 @@ import subprocess
 import sys
 import threading
 import time
+from pathlib import Path
 
+TOP = Path(__file__).resolve().parent.parent
 BEGAN = time.monotonic()
 QUIET = 30  # seconds after which a part that prints nothing is said to be at work still
 
@@ -80,10 +83,22 @@ def compared(name, command):
     return said
 
 
-BEFORE = [
-    ("promises", [sys.executable, "tools/promises.py"]),
-    ("layout", ["rt", "fmt", "--check"]),
-]
+def proofs_fault(lines):
+    """What is wrong with the lines of an `rt ci` that ended well, or None: its count, and every wrong version refused."""
+    if not (lines and re.fullmatch(r"[1-9]\d* passed, 0 failed", lines[-1])):
+        return f"rt ci ends with {lines[-1:]} and not with its count"
+    told = [line for line in lines if line.startswith("rt: ok;")]
+    if len(told) != 1:
+        return f"rt ci says {len(told)} times that all is ok"
+    bad = re.search(r"(\d+) bad\b", told[0])
+    if bad and int(bad[1]) > 0:
+        return f"{bad[1]} bad must-fail edits, which rt ci names above"
+    refused = re.search(r"must-fail edits: (\d+) refused", told[0])
+    count, edits = int(refused[1]) if refused else 0, len(list((TOP / "crates").glob("*/must-fail/*.edit")))
+    return None if count == edits else f"{count} must-fail edits were refused, and there are {edits}"
+
+
+BEFORE = [("promises", [sys.executable, "tools/promises.py"])]
 VECTORS = [sys.executable, "tools/vectors.py", "oracle/recorded/cases.jsonl", "420", "./crabuledda", "case"]
 AFTER = [
     ("hosts", ["host/test"]),
@@ -97,15 +112,16 @@ AFTER = [
 def main():
     for name, command in BEFORE:
         part(name, command)
-    count = run("proofs", ["rt", "ci"])[-1:]
-    if not (count and re.fullmatch(r"[1-9]\d* passed, 0 failed", count[0])):
-        say(f"proofs: FAILED, rt ci ends with {count} and not with its count")
+    lines = run("proofs", ["rt", "ci"])
+    fault = proofs_fault(lines)
+    if fault:
+        say(f"proofs: FAILED, {fault}")
         sys.exit(1)
     said = [f"{name}: {line}" for name, command in AFTER for line in compared(name, command)]
     say("what was compared:")
     for line in said:
         say(f"  {line}")
-    print(count[0], flush=True)
+    print(lines[-1], flush=True)
 
 
 if __name__ == "__main__":

@@ -1,8 +1,0 @@
-#ifndef KIT_STDINT_H
-#define KIT_STDINT_H
-typedef __UINT8_TYPE__ uint8_t;
-typedef __UINT32_TYPE__ uint32_t;
-typedef __UINT64_TYPE__ uint64_t;
-#define UINT32_C(n) n##U
-#define UINT32_MAX UINT32_C(4294967295)
-#endif
