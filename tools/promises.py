@@ -3,7 +3,8 @@
 
 Every `pub fn` of every crate stands in its table with the record that its `ensures` cites, the theorem that two outcomes
 which meet the record are equal, and the wrong versions that were tried against it, one at least. No `pub fn` has a `requires`.
-A row whose function, record, theorem or edit is gone is an error, and so is an edit that no row names.
+A row whose function, record, theorem or edit is gone is an error, and so is an edit that no row names. So is a file of specs/ or
+proofs/ that the page's other tables cite and that is gone, and a name cited behind one that no such file declares.
 """
 import re
 import sys
@@ -12,7 +13,11 @@ from pathlib import Path
 TOP = Path(__file__).resolve().parent.parent
 TABLE = TOP / "docs" / "PROMISES.md"
 ROW = re.compile(r"^\| `(?P<function>[\w:]+)` \| `(?P<promise>\w+)` \| `(?P<settled>[\w-]+)` \| (?P<wrong>.*) \|$")
-FUNCTION = re.compile(r'^(?P<indent> *)pub (?:extern "C" )?fn (?P<name>\w+)')
+FUNCTION = re.compile(r'^(?P<indent> *)pub (?:const )?(?:extern "C" )?fn (?P<name>\w+)')
+CITED = re.compile(r"^\s*ensures (?:\w+ )?\{ (\w+Promise)\b", re.M)
+SPAN = re.compile(r"`([^`]+)`")
+PLACE = re.compile(r"(?:(?P<crate>\w+)/)?(?P<part>(?:specs|proofs)/\w+)")
+DECLARED = re.compile(r"^ *(?:(?:pub|abbrev|unfoldable|record|data) )*([\w'-]+) [:({]", re.M)
 
 
 def opens_body(line):
@@ -26,7 +31,7 @@ def public_functions(crate):
         inside = None
         lines = source.read_text(encoding="utf-8").split("\n")
         for number, line in enumerate(lines):
-            opened = re.match(r"^impl (\w+)", line)
+            opened = re.match(r"^impl(?:<.*?>)? (?:.* for )?(\w+)", line)
             if opened:
                 inside = opened[1]
             elif line == "}":
@@ -50,7 +55,7 @@ def check_function(name, contract, row, crate, faults):
     """The row of one function: its record, its theorem and its wrong versions are there."""
     if re.search(r"^\s*requires", contract, re.M):
         faults.append(f"{name}: a public function has a `requires`")
-    cited = re.findall(r"⌜ (\w+)", contract)
+    cited = CITED.findall(contract)
     if cited != [row["promise"]]:
         faults.append(f"{name}: its `ensures` cites {', '.join(cited) or 'no record'}, the list says {row['promise']}")
     if not re.search(rf"^pub record {row['promise']} ", antt(crate / "specs"), re.M):
@@ -67,6 +72,26 @@ def check_function(name, contract, row, crate, faults):
         home, edit = label.split("::") if "::" in label else (crate.name, label)
         if not (TOP / "crates" / home / "must-fail" / f"{edit}.edit").is_file():
             faults.append(f"{name}: no wrong version {home}/must-fail/{edit}.edit")
+
+
+def check_cited(table, faults):
+    """Each file that the page cites is there, and the names behind it in its cell are declared in specs/ or proofs/ of some crate."""
+    declared = set()
+    for crate in (TOP / "crates").iterdir():
+        declared |= {name for part in ("specs", "proofs") for name in DECLARED.findall(antt(crate / part))}
+    for cells in (line.split(" | ") for line in table.split("\n") if line.startswith("| ") and not ROW.match(line)):
+        crate = SPAN.match(cells[0].removeprefix("| "))
+        for cell in cells:
+            cites = False
+            for span in SPAN.findall(cell):
+                place = PLACE.fullmatch(span)
+                if place:
+                    home = place["crate"] or (crate and crate[1]) or ""
+                    cites = True
+                    if not (TOP / "crates" / home / f"{place['part']}.antt").is_file():
+                        faults.append(f"docs/PROMISES.md: no file crates/{home}/{place['part']}.antt")
+                elif cites and re.fullmatch(r"[\w'-]+", span) and span not in declared and not (TOP / "crates" / span).is_dir():
+                    faults.append(f"docs/PROMISES.md: nothing declares {span}")
 
 
 def main():
@@ -94,6 +119,7 @@ def main():
     for edit in sorted((TOP / "crates").glob("*/must-fail/*.edit")):
         if f"`{edit.stem}`" not in table and f"::{edit.stem}`" not in table:
             faults.append(f"{edit.parent.parent.name}: the wrong version {edit.stem} stands in no row of docs/PROMISES.md")
+    check_cited(table, faults)
     for fault in faults:
         print(f"promises: {fault}")
     print(f"promises: {len(functions)} public functions, {len(rows)} rows, {len(faults)} faults")
