@@ -2,13 +2,12 @@
 """./crabuledda compare [--cases N] [--edges E] [--random R] [--seed S] [--crate FOLDER]: the archive against the Rust.
 
 Random and edge cases go through the proved archive, the plain Rust copy of oracle/, and the crate itself where its files
-are at hand: in FOLDER, or in the folder that ARGON2_CRATE names. Answers, outputs and a digest of every lent word are
-compared, after refusals too. Prints how many cases each pair compared, the smallest case that differs where one does, and
-at the end the sides that were compared. It fails where a side panics, skips what it can be asked or is missing, and where
-fewer cases are made, answered or compared than asked for.
+are at hand: in ../shared/docs/src, or in FOLDER. Answers, outputs and a digest of every lent word are compared, after
+refusals too. Prints how many cases each pair compared, the smallest case that differs where one does, and at the end the
+sides that were compared. It fails where a side panics, skips what it can be asked or is missing, and where fewer cases are
+made, answered or compared than asked for.
 """
 import argparse
-import os
 import subprocess
 import sys
 import time
@@ -17,6 +16,7 @@ from pathlib import Path
 TOP = Path(__file__).resolve().parent.parent
 ORACLE = TOP / "target" / "oracle" / "compare-oracle"
 PLACE = TOP / "target" / "compare"
+CRATE = TOP / ".." / "shared" / "docs" / "src"
 SLOW = 2000  # cases from which progress is shown
 
 
@@ -51,9 +51,9 @@ def made_cases(chosen):
 
 
 def sides_built(folder):
-    """The sides of the oracle: the plain copy, and the crate where a folder is named."""
+    """The sides of the oracle: the plain copy, and the crate where its folder is there."""
     sides = subprocess.run([ORACLE, "sides"], check=True, stdout=subprocess.PIPE, text=True).stdout.split()
-    wanted = ["plain"] + ["crate"] * bool(folder)
+    wanted = ["plain"] + ["crate"] * folder.is_dir()
     if sides != wanted:
         sys.exit(f"compare: the oracle has the sides {sides}, and {wanted} are to be compared")
     return sides
@@ -65,12 +65,11 @@ def main():
     parser.add_argument("--edges", type=int, metavar="E", help="how many of them are edge cases at most (default all edge cases)")
     parser.add_argument("--random", type=int, default=0, metavar="R", help="how many random cases have to be compared (default 0)")
     parser.add_argument("--seed", type=int, default=1, metavar="S", help="what the random cases are made from (default 1)")
-    parser.add_argument("--crate", metavar="FOLDER", help="where the crate's files are (default what ARGON2_CRATE names)")
+    parser.add_argument("--crate", metavar="FOLDER", help="where the crate's files are (default ../shared/docs/src)")
     chosen = parser.parse_args()
     chosen.edges = chosen.cases if chosen.edges is None else chosen.edges
-    named = chosen.crate or os.environ.get("ARGON2_CRATE")
-    folder = [Path(named).resolve()] if named else []
-    subprocess.run([TOP / "oracle" / "build", *folder], check=True, stdout=sys.stderr)
+    folder = Path(chosen.crate).resolve() if chosen.crate else CRATE
+    subprocess.run([TOP / "oracle" / "build", *([folder] if chosen.crate else [])], check=True, stdout=sys.stderr)
     subprocess.run([TOP / "host" / "build"], check=True)
     PLACE.mkdir(parents=True, exist_ok=True)
     sides = sides_built(folder)
@@ -82,7 +81,7 @@ def main():
     status = subprocess.run([ORACLE, "compare", *wanted, PLACE / "cases", *files]).returncode
     if status != 0:
         sys.exit(status)
-    absent = "" if "crate" in sides else "; NOT the crate: ARGON2_CRATE names no folder with its files"
+    absent = "" if "crate" in sides else "; NOT the crate: its files are not in ../shared/docs/src"
     print(f"compared: {', '.join(commands)} on {cases} cases{absent}")
 
 
