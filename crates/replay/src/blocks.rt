@@ -3,7 +3,8 @@ ghost use Rattle.std.specs.Prelude.{◌<◌};
 ghost use Rattle.block.specs.Block.{block_bytes};
 
 use block::Block;
-use libc::STDOUT_FILENO;
+use std::io;
+use std::io::Write;
 use word::to_le64;
 
 // How many pairs are drawn.
@@ -81,27 +82,27 @@ fn bytes(b: Block) -> [u8; Block::SIZE] {
 }
 
 // One line: what it is, and the block.
-fn print(name: &[u8], b: Block) {
+fn print<W: Write>(out: &mut W, name: &str, b: Block) -> io::Result<()> {
     let bytes = bytes(b);
     let mut text = [0u8; 2 * Block::SIZE];
     let count = hex_text::write(&bytes, &mut text);
-    io::write_all(STDOUT_FILENO, name);
-    io::write_all(STDOUT_FILENO, &text[..count]);
-    io::write_all(STDOUT_FILENO, b"\n");
+    out.write_all(name.as_bytes())?;
+    out.write_all(&text[..count])?;
+    out.write_all(b"\n")
 }
 
 // Pairs of drawn blocks, compressed; the generator's state after them.
-fn pairs(seed: u64) -> u64 {
+fn pairs<W: Write>(out: &mut W, seed: u64) -> io::Result<u64> {
     let mut state = seed;
     let mut i = 0;
     while i < PAIRS {
         let x = draw(state);
         let y = draw(x.seed);
-        print(b"compress random  ", Block::compress(x.block, y.block));
+        print(out, "compress random  ", Block::compress(x.block, y.block))?;
         state = y.seed;
         i += 1;
     }
-    state
+    Ok(state)
 }
 
 // The last block of a chain, in which each is the compression of the two before it.
@@ -119,19 +120,20 @@ fn chain(first: Block, second: Block) -> Block {
 }
 
 // All lines.
-pub(crate) fn replay() {
+pub(crate) fn replay<W: Write>(out: &mut W) -> io::Result<()> {
     let zeros = Block::new();
     let ones = Block {
         words: [0xffff_ffff_ffff_ffff; Block::WORDS],
     };
-    print(b"compress zeros  ", Block::compress(zeros, zeros));
+    print(out, "compress zeros  ", Block::compress(zeros, zeros))?;
     print(
-        b"compress counting  ",
+        out,
+        "compress counting  ",
         Block::compress(counting(0), counting(1)),
-    );
-    print(b"compress ones  ", Block::compress(ones, zeros));
-    let seed = pairs(SEED);
+    )?;
+    print(out, "compress ones  ", Block::compress(ones, zeros))?;
+    let seed = pairs(out, SEED)?;
     let x = draw(seed);
     let y = draw(x.seed);
-    print(b"chain  ", chain(x.block, y.block));
+    print(out, "chain  ", chain(x.block, y.block))
 }

@@ -7,6 +7,9 @@ use argon2::{fill_memory, hash_password_into_with_memory};
 use blake2b_long::blake2b_long;
 use block::Block;
 use params::{Configured, Params};
+use std::io::{Read, Write};
+use std::rt::Files;
+use std::{fs, io};
 
 // The kinds of a case; another is a variable-length hash.
 const HASH: u64 = 0;
@@ -58,11 +61,11 @@ fn call(
 }
 
 // The call of a case, with the texts that follow its numbers.
-fn answered(fd: i32, n: [u64; NUMBERS], words: &mut [u64], out: &mut [u8]) -> Answer {
-    let password = next_text(fd);
-    let salt = next_text(fd);
-    let secret = next_text(fd);
-    let data = next_text(fd);
+fn answered<R: Read>(list: &mut R, n: [u64; NUMBERS], words: &mut [u64], out: &mut [u8]) -> Answer {
+    let password = next_text(list);
+    let salt = next_text(list);
+    let secret = next_text(list);
+    let data = next_text(list);
     let p = password.bytes;
     let s = salt.bytes;
     let k = secret.bytes;
@@ -84,48 +87,64 @@ fn answered(fd: i32, n: [u64; NUMBERS], words: &mut [u64], out: &mut [u8]) -> An
 }
 
 // Whether answer, output and all lent words are the recorded ones, over memory that the seed made dirty.
-fn agrees(fd: i32, n: [u64; NUMBERS], words: &mut [u64], out: &mut [u8]) -> bool {
+fn agrees<R: Read>(list: &mut R, n: [u64; NUMBERS], words: &mut [u64], out: &mut [u8]) -> bool {
     lent::dirty(n[10], &mut *words);
     lent::dirty_bytes(n[10], &mut *out);
-    let answer = answered(fd, n, &mut *words, &mut *out);
-    let output = same(out, next_text(fd));
+    let answer = answered(list, n, &mut *words, &mut *out);
+    let output = same(out, next_text(list));
     let digest = lent::digest(words);
-    let memory = same(&digest, next_text(fd));
+    let memory = same(&digest, next_text(list));
     (answer.number() as u64 == n[11]) & output & memory
 }
 
 // The next case; whether it agrees.
-fn replay_case(fd: i32, memory: &mut [u64]) -> bool {
-    let n = numbers(fd);
+fn replay_case<R: Read, W: Write>(
+    list: &mut R,
+    out: &mut W,
+    memory: &mut [u64],
+) -> io::Result<bool> {
+    let n = numbers(list);
     let count = count_words(n[9], memory);
     let output = Text::of([0u8; Text::MOST], n[8]);
-    let mut out = output.bytes;
+    let mut room = output.bytes;
     let length = output.count;
-    let agreed = agrees(fd, n, &mut memory[..count], &mut out[..length]);
+    let agreed = agrees(list, n, &mut memory[..count], &mut room[..length]);
     if !agreed {
-        differs(b"hashes", n[LINE]);
+        differs(out, "hashes", n[LINE])?;
     }
-    agreed
+    Ok(agreed)
 }
 
 // How many of the cases agree.
-fn agreeing(fd: i32, recorded: u64, memory: &mut [u64]) -> u64 {
+fn agreeing<R: Read, W: Write>(
+    list: &mut R,
+    out: &mut W,
+    recorded: u64,
+    memory: &mut [u64],
+) -> io::Result<u64> {
     let mut agree: u64 = 0;
     let mut i = 0;
     while i < recorded {
-        if replay_case(fd, &mut *memory) {
+        if replay_case(list, out, &mut *memory)? {
             agree += 1;
         }
         i += 1;
     }
-    agree
+    Ok(agree)
 }
 
-// All cases.
-pub(crate) fn replay() {
-    let fd = os::open_read(b"hashes");
-    let recorded = number(fd);
+// All cases of a list.
+fn replay_list<R: Read, W: Write>(list: &mut R, out: &mut W) -> io::Result<()> {
+    let recorded = number(list);
     let mut memory = [0u64; WORDS];
-    report(b"hashes", recorded, agreeing(fd, recorded, &mut memory));
-    libc::close(fd);
+    let agree = agreeing(list, out, recorded, &mut memory)?;
+    report(out, "hashes", recorded, agree)
+}
+
+// All cases; a list that cannot be opened has none.
+pub(crate) fn replay<F: Files, W: Write>(rt: &F, out: &mut W) -> io::Result<()> {
+    match fs::open(rt, "hashes") {
+        Ok(mut list) => replay_list(&mut list, out),
+        Err(_) => report(out, "hashes", 0, 0),
+    }
 }

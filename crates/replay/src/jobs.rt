@@ -8,6 +8,9 @@ use block::Block;
 use job::Job;
 use params::Configured;
 use position::LaneNumber;
+use std::io::{Read, Write};
+use std::rt::Files;
+use std::{fs, io};
 
 // The kind of a step; another is a finish.
 const STEP: u64 = 0;
@@ -19,21 +22,21 @@ const WORDS: usize = 128 * Block::WORDS;
 const FIGURES: usize = 25;
 
 // The next positions, one for each lane.
-fn next_positions(fd: i32) -> [u32; Job::LANES] {
+fn next_positions<R: Read>(list: &mut R) -> [u32; Job::LANES] {
     let mut positions = [0u32; Job::LANES];
     let mut k = 0;
     while k < Job::LANES {
-        positions[k] = low(number(fd));
+        positions[k] = low(number(list));
         k += 1;
     }
     positions
 }
 
 // The job of a case, whose place follows its numbers.
-fn next_job(fd: i32, n: [u64; NUMBERS]) -> Job {
-    let pass = low(number(fd));
-    let slice = low(number(fd));
-    let positions = next_positions(fd);
+fn next_job<R: Read>(list: &mut R, n: [u64; NUMBERS]) -> Job {
+    let pass = low(number(list));
+    let slice = low(number(list));
+    let positions = next_positions(list);
     let params = params(n);
     Job {
         params,
@@ -92,18 +95,24 @@ fn figures(job: Job) -> [u64; FIGURES] {
 }
 
 // Whether a step has the recorded answer and hands back the recorded job.
-fn step_agrees(fd: i32, job: Job, words: &mut [u64], lane: LaneNumber, expected: u64) -> bool {
+fn step_agrees<R: Read>(
+    list: &mut R,
+    job: Job,
+    words: &mut [u64],
+    lane: LaneNumber,
+    expected: u64,
+) -> bool {
     let stepped = step(job, words, lane);
     let answer = stepped.answer;
     let after = figures(stepped.job);
     let digest = lent::digest(&after);
-    let handed = same(&digest, next_text(fd));
+    let handed = same(&digest, next_text(list));
     (answer.number() as u64 == expected) & handed
 }
 
 // Whether a finish has the recorded answer and output, over an output that the seed made dirty.
-fn finish_agrees(
-    fd: i32,
+fn finish_agrees<R: Read>(
+    list: &mut R,
     job: Job,
     words: &[u64],
     out: &mut [u8],
@@ -112,61 +121,77 @@ fn finish_agrees(
 ) -> bool {
     lent::dirty_bytes(seed, &mut *out);
     let answer = finish(job, words, &mut *out);
-    let output = same(out, next_text(fd));
+    let output = same(out, next_text(list));
     (answer.number() as u64 == expected) & output
 }
 
 // Whether the call of a case agrees.
-fn call_agrees(fd: i32, n: [u64; NUMBERS], words: &mut [u64]) -> bool {
-    let job = next_job(fd, n);
-    let argument = number(fd);
+fn call_agrees<R: Read>(list: &mut R, n: [u64; NUMBERS], words: &mut [u64]) -> bool {
+    let job = next_job(list, n);
+    let argument = number(list);
     if n[1] == STEP {
-        return step_agrees(fd, job, words, LaneNumber(low(argument)), n[11]);
+        return step_agrees(list, job, words, LaneNumber(low(argument)), n[11]);
     }
     let output = Text::of([0u8; Text::MOST], argument);
     let mut out = output.bytes;
     let length = output.count;
-    finish_agrees(fd, job, &*words, &mut out[..length], n[10], n[11])
+    finish_agrees(list, job, &*words, &mut out[..length], n[10], n[11])
 }
 
 // Whether the call agrees and all lent words are the recorded ones, over memory that the seed made dirty.
-fn agrees(fd: i32, n: [u64; NUMBERS], words: &mut [u64]) -> bool {
+fn agrees<R: Read>(list: &mut R, n: [u64; NUMBERS], words: &mut [u64]) -> bool {
     lent::dirty(n[10], &mut *words);
-    let called = call_agrees(fd, n, &mut *words);
+    let called = call_agrees(list, n, &mut *words);
     let digest = lent::digest(words);
-    let memory = same(&digest, next_text(fd));
+    let memory = same(&digest, next_text(list));
     called & memory
 }
 
 // The next case; whether it agrees.
-fn replay_case(fd: i32, memory: &mut [u64]) -> bool {
-    let n = numbers(fd);
+fn replay_case<R: Read, W: Write>(
+    list: &mut R,
+    out: &mut W,
+    memory: &mut [u64],
+) -> io::Result<bool> {
+    let n = numbers(list);
     let count = count_words(n[9], memory);
-    let agreed = agrees(fd, n, &mut memory[..count]);
+    let agreed = agrees(list, n, &mut memory[..count]);
     if !agreed {
-        differs(b"jobs", n[LINE]);
+        differs(out, "jobs", n[LINE])?;
     }
-    agreed
+    Ok(agreed)
 }
 
 // How many of the cases agree.
-fn agreeing(fd: i32, recorded: u64, memory: &mut [u64]) -> u64 {
+fn agreeing<R: Read, W: Write>(
+    list: &mut R,
+    out: &mut W,
+    recorded: u64,
+    memory: &mut [u64],
+) -> io::Result<u64> {
     let mut agree: u64 = 0;
     let mut i = 0;
     while i < recorded {
-        if replay_case(fd, &mut *memory) {
+        if replay_case(list, out, &mut *memory)? {
             agree += 1;
         }
         i += 1;
     }
-    agree
+    Ok(agree)
 }
 
-// All cases.
-pub(crate) fn replay() {
-    let fd = os::open_read(b"jobs");
-    let recorded = number(fd);
+// All cases of a list.
+fn replay_list<R: Read, W: Write>(list: &mut R, out: &mut W) -> io::Result<()> {
+    let recorded = number(list);
     let mut memory = [0u64; WORDS];
-    report(b"jobs", recorded, agreeing(fd, recorded, &mut memory));
-    libc::close(fd);
+    let agree = agreeing(list, out, recorded, &mut memory)?;
+    report(out, "jobs", recorded, agree)
+}
+
+// All cases; a list that cannot be opened has none.
+pub(crate) fn replay<F: Files, W: Write>(rt: &F, out: &mut W) -> io::Result<()> {
+    match fs::open(rt, "jobs") {
+        Ok(mut list) => replay_list(&mut list, out),
+        Err(_) => report(out, "jobs", 0, 0),
+    }
 }

@@ -1,7 +1,9 @@
 // A packed list (oracle/pack): a count and so many cases, of numbers, 8 bytes little-endian, and of texts behind their counts.
+ghost use Rattle.std.specs.Prelude.{◌≤◌, length};
 ghost use Rattle.io.specs.Counts.{IsPrefixLen};
 
-use libc::STDOUT_FILENO;
+use std::io;
+use std::io::{Read, Write};
 
 // The numbers that a case begins with; the first is its line in the recorded list.
 pub(crate) const NUMBERS: usize = 12;
@@ -33,19 +35,31 @@ impl Text {
     }
 }
 
+// Reads until the bytes are full, the list ends or a read fails.
+fn read_full<R: Read>(list: &mut R, bytes: &mut [u8]) {
+    let mut done = 0;
+    while done < bytes.len() {
+        match list.read(&mut bytes[done..]) {
+            Ok(0) => return,
+            Ok(n) => done += n,
+            Err(_) => return,
+        }
+    }
+}
+
 // The next number; 0 behind the list's end.
-pub(crate) fn number(fd: i32) -> u64 {
+pub(crate) fn number<R: Read>(list: &mut R) -> u64 {
     let mut bytes = [0u8; 8];
-    io::read_full(fd, &mut bytes);
+    read_full(list, &mut bytes);
     word::load(&bytes, 0)
 }
 
 // The next numbers.
-pub(crate) fn numbers(fd: i32) -> [u64; NUMBERS] {
+pub(crate) fn numbers<R: Read>(list: &mut R) -> [u64; NUMBERS] {
     let mut numbers = [0u64; NUMBERS];
     let mut k = 0;
     while k < NUMBERS {
-        numbers[k] = number(fd);
+        numbers[k] = number(list);
         k += 1;
     }
     numbers
@@ -67,14 +81,14 @@ pub(crate) fn low(n: u64) -> u32 {
 }
 
 // The next text.
-pub(crate) fn next_text(fd: i32) -> Text
+pub(crate) fn next_text<R: Read>(list: &mut R) -> Text
     ensures { IsPrefixLen result.count result.bytes }
 {
-    let length = number(fd);
+    let length = number(list);
     let empty = Text::of([0u8; Text::MOST], length);
     let mut bytes = empty.bytes;
     let room = empty.count;
-    io::read_full(fd, &mut bytes[..room]);
+    read_full(list, &mut bytes[..room]);
     Text::of(bytes, length)
 }
 
@@ -84,23 +98,20 @@ pub(crate) fn same(bytes: &[u8], text: Text) -> bool
 {
     let expected = text.bytes;
     let count = text.count;
-    check::same(bytes, &expected[..count])
+    bytes == &expected[..count]
 }
 
 // A line for a case that differs, by its line in the recorded list.
-pub(crate) fn differs(list: &[u8], line: u64) {
-    io::write_all(STDOUT_FILENO, list);
-    io::write_all(STDOUT_FILENO, b" differs: line ");
-    io::print_decimal(STDOUT_FILENO, line);
-    io::write_all(STDOUT_FILENO, b"\n");
+pub(crate) fn differs<W: Write>(out: &mut W, list: &str, line: u64) -> io::Result<()> {
+    writeln!(out, "{list} differs: line {line}")
 }
 
 // The line of a list.
-pub(crate) fn report(list: &[u8], recorded: u64, agree: u64) {
-    io::write_all(STDOUT_FILENO, list);
-    io::write_all(STDOUT_FILENO, b" ");
-    io::print_decimal(STDOUT_FILENO, recorded);
-    io::write_all(STDOUT_FILENO, b" recorded, ");
-    io::print_decimal(STDOUT_FILENO, agree);
-    io::write_all(STDOUT_FILENO, b" agree\n");
+pub(crate) fn report<W: Write>(
+    out: &mut W,
+    list: &str,
+    recorded: u64,
+    agree: u64,
+) -> io::Result<()> {
+    writeln!(out, "{list} {recorded} recorded, {agree} agree")
 }

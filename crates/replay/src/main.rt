@@ -12,9 +12,12 @@ mod jobs;
 mod list;
 mod positions;
 
-fn main() {
-    blocks::replay();
-    hashes::replay();
-    positions::replay();
-    jobs::replay();
+use std::io;
+
+fn main(rt: HostRuntime) -> io::Result<()> {
+    let mut out = rt.stdout();
+    blocks::replay(&mut out)?;
+    hashes::replay(&rt, &mut out)?;
+    positions::replay(&rt, &mut out)?;
+    jobs::replay(&rt, &mut out)
 }

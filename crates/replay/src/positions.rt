@@ -1,6 +1,9 @@
 // The recorded reference positions.
 use crate::list::{LINE, NUMBERS, differs, low, number, numbers, report};
 use position::{LaneNumber, reference_position};
+use std::io::{Read, Write};
+use std::rt::Files;
+use std::{fs, io};
 
 // Whether a position has the recorded answer, lane and block.
 fn agrees(n: [u64; NUMBERS]) -> bool {
@@ -21,32 +24,39 @@ fn agrees(n: [u64; NUMBERS]) -> bool {
 }
 
 // The next case; whether it agrees.
-fn replay_case(fd: i32) -> bool {
-    let n = numbers(fd);
+fn replay_case<R: Read, W: Write>(list: &mut R, out: &mut W) -> io::Result<bool> {
+    let n = numbers(list);
     let agreed = agrees(n);
     if !agreed {
-        differs(b"positions", n[LINE]);
+        differs(out, "positions", n[LINE])?;
     }
-    agreed
+    Ok(agreed)
 }
 
 // How many of the cases agree.
-fn agreeing(fd: i32, recorded: u64) -> u64 {
+fn agreeing<R: Read, W: Write>(list: &mut R, out: &mut W, recorded: u64) -> io::Result<u64> {
     let mut agree: u64 = 0;
     let mut i = 0;
     while i < recorded {
-        if replay_case(fd) {
+        if replay_case(list, out)? {
             agree += 1;
         }
         i += 1;
     }
-    agree
+    Ok(agree)
 }
 
-// All cases.
-pub(crate) fn replay() {
-    let fd = os::open_read(b"positions");
-    let recorded = number(fd);
-    report(b"positions", recorded, agreeing(fd, recorded));
-    libc::close(fd);
+// All cases of a list.
+fn replay_list<R: Read, W: Write>(list: &mut R, out: &mut W) -> io::Result<()> {
+    let recorded = number(list);
+    let agree = agreeing(list, out, recorded)?;
+    report(out, "positions", recorded, agree)
+}
+
+// All cases; a list that cannot be opened has none.
+pub(crate) fn replay<F: Files, W: Write>(rt: &F, out: &mut W) -> io::Result<()> {
+    match fs::open(rt, "positions") {
+        Ok(mut list) => replay_list(&mut list, out),
+        Err(_) => report(out, "positions", 0, 0),
+    }
 }
