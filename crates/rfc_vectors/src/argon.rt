@@ -5,8 +5,9 @@ use argon2::{finish, hash_password_into_with_memory, start};
 use blake2b::Engine;
 use block::Block;
 use lent::digest;
-use libc::STDOUT_FILENO;
 use params::{Configured, Params};
+use std::io;
+use std::io::Write;
 use turns::play;
 use word::{low_half, to_le32};
 
@@ -126,31 +127,36 @@ fn changed(words: &[u64], needed: usize) -> usize {
 }
 
 // What a run left: the tag, the digest of the memory, and that the words behind are as they were.
-fn write_run(words: &[u64], needed: usize, tag: &[u8]) {
-    io::write_all(STDOUT_FILENO, b"tag ");
-    write_bytes(tag);
-    io::write_all(STDOUT_FILENO, b" memory ");
+fn write_run<W: Write>(to: &mut W, words: &[u64], needed: usize, tag: &[u8]) -> io::Result<()> {
+    to.write_all(b"tag ")?;
+    write_bytes(to, tag)?;
+    to.write_all(b" memory ")?;
     let d = digest(first_words(words, needed));
-    write_bytes(&d);
+    write_bytes(to, &d)?;
     if changed(words, needed) == 0 {
-        io::write_all(STDOUT_FILENO, b" kept\n");
+        to.write_all(b" kept\n")
     } else {
-        io::write_all(STDOUT_FILENO, b" CHANGED\n");
+        to.write_all(b" CHANGED\n")
     }
 }
 
 // The parameters, in front of a line.
-fn write_params(params: Params) {
-    io::write_all(STDOUT_FILENO, b"argon2 ");
-    write_number(params.algorithm as usize);
-    write_number(params.version as usize);
-    write_number(params.memory as usize);
-    write_number(params.passes as usize);
-    write_number(params.lanes as usize);
+fn write_params<W: Write>(to: &mut W, params: Params) -> io::Result<()> {
+    to.write_all(b"argon2 ")?;
+    write_number(to, params.algorithm as usize)?;
+    write_number(to, params.version as usize)?;
+    write_number(to, params.memory as usize)?;
+    write_number(to, params.passes as usize)?;
+    write_number(to, params.lanes as usize)
 }
 
 // By the whole hash.
-fn at_once(params: Params, words: &mut [u64], needed: usize) {
+fn at_once<W: Write>(
+    to: &mut W,
+    params: Params,
+    words: &mut [u64],
+    needed: usize,
+) -> io::Result<()> {
     let mut tag = [0u8; TAG];
     hash_password_into_with_memory(
         params,
@@ -161,22 +167,28 @@ fn at_once(params: Params, words: &mut [u64], needed: usize) {
         &mut *words,
         &mut tag,
     );
-    write_params(params);
-    io::write_all(STDOUT_FILENO, b"whole ");
-    write_run(&*words, needed, &tag);
+    write_params(to, params)?;
+    to.write_all(b"whole ")?;
+    write_run(to, &*words, needed, &tag)
 }
 
 // By start, steps and finish.
-fn in_turns(params: Params, order: u64, words: &mut [u64], needed: usize) {
+fn in_turns<W: Write>(
+    to: &mut W,
+    params: Params,
+    order: u64,
+    words: &mut [u64],
+    needed: usize,
+) -> io::Result<()> {
     let mut tag = [0u8; TAG];
     let s = start(params, TAG, &PASSWORD, &SALT, &SECRET, &DATA, &mut *words);
     let plan = schedule(order, params.lanes);
     let job = play(s.job, &mut *words, &plan);
     finish(job, &*words, &mut tag);
-    write_params(params);
-    io::write_all(STDOUT_FILENO, b"order ");
-    write_number(order as usize);
-    write_run(&*words, needed, &tag);
+    write_params(to, params)?;
+    to.write_all(b"order ")?;
+    write_number(to, order as usize)?;
+    write_run(to, &*words, needed, &tag)
 }
 
 // A number as 4 bytes, and bytes after their count.
@@ -206,26 +218,25 @@ fn initial_hash(params: Params) -> [u8; Engine::MAX_OUTPUT] {
     s.end()
 }
 
-fn write_initial(params: Params) {
-    write_params(params);
-    io::write_all(STDOUT_FILENO, b"initial ");
+fn write_initial<W: Write>(to: &mut W, params: Params) -> io::Result<()> {
+    write_params(to, params)?;
+    to.write_all(b"initial ")?;
     let h = initial_hash(params);
-    write_bytes(&h);
-    io::write_all(STDOUT_FILENO, b"\n");
+    write_bytes(to, &h)?;
+    to.write_all(b"\n")
 }
 
 // By the whole hash and in every order.
-fn every_way(params: Params, words: &mut [u64]) {
-    write_initial(params);
+fn every_way<W: Write>(to: &mut W, params: Params, words: &mut [u64]) -> io::Result<()> {
+    write_initial(to, params)?;
     let needed = Block::WORDS * params.block_count() as usize;
     dirty(&mut *words, needed, 1);
-    at_once(params, &mut *words, needed);
-    let mut order = 0;
-    while order < ORDERS {
+    at_once(to, params, &mut *words, needed)?;
+    for order in 0..ORDERS {
         dirty(&mut *words, needed, order + 2);
-        in_turns(params, order, &mut *words, needed);
-        order += 1;
+        in_turns(to, params, order, &mut *words, needed)?;
     }
+    Ok(())
 }
 
 fn parameters(algorithm: u32, version: u32, memory: u32, passes: u32, lanes: u32) -> Params {
@@ -240,16 +251,20 @@ fn parameters(algorithm: u32, version: u32, memory: u32, passes: u32, lanes: u32
 }
 
 // The three examples of RFC 9106, of its version and of the one before; then s = 2, 3 and 5, with 1, 3 and 2 lanes.
-pub(crate) fn lines() {
-    let mut lent = [0u64; LENT];
-    let words = &mut lent[..];
-    every_way(parameters(Params::D, Params::V0X13, 32, 3, 4), &mut *words);
-    every_way(parameters(Params::I, Params::V0X13, 32, 3, 4), &mut *words);
-    every_way(parameters(Params::ID, Params::V0X13, 32, 3, 4), &mut *words);
-    every_way(parameters(Params::D, Params::V0X10, 32, 3, 4), &mut *words);
-    every_way(parameters(Params::I, Params::V0X10, 32, 3, 4), &mut *words);
-    every_way(parameters(Params::ID, Params::V0X10, 32, 3, 4), &mut *words);
-    every_way(parameters(Params::D, Params::V0X13, 8, 1, 1), &mut *words);
-    every_way(parameters(Params::I, Params::V0X13, 47, 2, 3), &mut *words);
-    every_way(parameters(Params::ID, Params::V0X10, 40, 2, 2), &mut *words);
+pub(crate) fn lines<W: Write>(to: &mut W) -> io::Result<()> {
+    let mut words = [0u64; LENT];
+    for params in [
+        parameters(Params::D, Params::V0X13, 32, 3, 4),
+        parameters(Params::I, Params::V0X13, 32, 3, 4),
+        parameters(Params::ID, Params::V0X13, 32, 3, 4),
+        parameters(Params::D, Params::V0X10, 32, 3, 4),
+        parameters(Params::I, Params::V0X10, 32, 3, 4),
+        parameters(Params::ID, Params::V0X10, 32, 3, 4),
+        parameters(Params::D, Params::V0X13, 8, 1, 1),
+        parameters(Params::I, Params::V0X13, 47, 2, 3),
+        parameters(Params::ID, Params::V0X10, 40, 2, 2),
+    ] {
+        every_way(to, params, &mut words)?;
+    }
+    Ok(())
 }

@@ -10,7 +10,8 @@ ghost use Rattle.std.specs.Prelude.{◌<◌};
 use blake2b::hash;
 use blake2b_long::blake2b_long;
 use hex_text::digits;
-use libc::STDOUT_FILENO;
+use std::io;
+use std::io::Write;
 
 // The lengths of the messages, of the hashes, and of the variable-length hashes.
 const SIZES: [usize; 8] = [0, 1, 127, 128, 129, 255, 256, 1000];
@@ -24,71 +25,72 @@ const LONG_OUTPUTS: [usize; 16] = [
 const LONG_SIZE: usize = 72;
 
 // Bytes as digits.
-pub(crate) fn write_bytes(bytes: &[u8]) {
-    let mut i = 0;
-    while i < bytes.len() {
-        let pair = digits(bytes[i]);
-        io::write_all(STDOUT_FILENO, &pair);
-        i += 1;
+pub(crate) fn write_bytes<W: Write>(to: &mut W, bytes: &[u8]) -> io::Result<()> {
+    for byte in bytes {
+        to.write_all(&digits(*byte))?;
     }
+    Ok(())
 }
 
 // Bytes as digits, and the line's end.
-fn write_hex(bytes: &[u8]) {
-    write_bytes(bytes);
-    io::write_all(STDOUT_FILENO, b"\n");
+fn write_hex<W: Write>(to: &mut W, bytes: &[u8]) -> io::Result<()> {
+    write_bytes(to, bytes)?;
+    to.write_all(b"\n")
 }
 
 // One decimal digit of n, the one that counts units of `unit`, where n has it.
-fn write_digit(n: usize, unit: usize)
+fn write_digit<W: Write>(to: &mut W, n: usize, unit: usize) -> io::Result<()>
     requires { 0 < unit }
 {
     if unit <= n {
         let d = [b'0' + (n / unit % 10) as u8];
-        io::write_all(STDOUT_FILENO, &d);
+        to.write_all(&d)?;
     }
+    Ok(())
 }
 
 // A number under 10,000 in decimal, and a space.
-pub(crate) fn write_number(n: usize) {
-    write_digit(n, 1000);
-    write_digit(n, 100);
-    write_digit(n, 10);
+pub(crate) fn write_number<W: Write>(to: &mut W, n: usize) -> io::Result<()> {
+    write_digit(to, n, 1000)?;
+    write_digit(to, n, 100)?;
+    write_digit(to, n, 10)?;
     let d = [b'0' + (n % 10) as u8];
-    io::write_all(STDOUT_FILENO, &d);
-    io::write_all(STDOUT_FILENO, b" ");
+    to.write_all(&d)?;
+    to.write_all(b" ")
 }
 
 // The hash of the message, of as many bytes as out has.
-fn hash_line(message: &[u8], out: &mut [u8]) {
-    io::write_all(STDOUT_FILENO, b"blake2b ");
-    write_number(message.len());
-    write_number(out.len());
+fn hash_line<W: Write>(to: &mut W, message: &[u8], out: &mut [u8]) -> io::Result<()> {
+    to.write_all(b"blake2b ")?;
+    write_number(to, message.len())?;
+    write_number(to, out.len())?;
     hash(message, out);
-    write_hex(out);
+    write_hex(to, out)
 }
 
 // The hash of the message, of n bytes, where there is room for them.
-fn show(message: &[u8], room: &mut [u8], n: usize) {
+fn show<W: Write>(to: &mut W, message: &[u8], room: &mut [u8], n: usize) -> io::Result<()> {
     if n <= room.len() {
-        hash_line(message, &mut room[..n]);
+        hash_line(to, message, &mut room[..n])?;
     }
+    Ok(())
 }
 
 // The variable-length hash of the message, of as many bytes as out has.
-fn long_line(message: &[u8], out: &mut [u8]) {
-    io::write_all(STDOUT_FILENO, b"blake2b_long ");
-    write_number(message.len());
-    write_number(out.len());
+fn long_line<W: Write>(to: &mut W, message: &[u8], out: &mut [u8]) -> io::Result<()> {
+    to.write_all(b"blake2b_long ")?;
+    write_number(to, message.len())?;
+    write_number(to, out.len())?;
     blake2b_long(message, out);
-    write_hex(out);
+    write_hex(to, out)
 }
 
 // The variable-length hash of the message, of n bytes, where there is room for them.
-fn show_long(message: &[u8], room: &mut [u8], n: usize) {
+fn show_long<W: Write>(to: &mut W, message: &[u8], room: &mut [u8], n: usize) -> io::Result<()> {
     if n <= room.len() {
-        long_line(message, &mut room[..n]);
+        long_line(to, message, &mut room[..n])?;
     }
+    Ok(())
 }
 
 // The bytes 0, 1, .., 255, 0, 1, ..
@@ -103,23 +105,19 @@ fn counting() -> [u8; 1000] {
 }
 
 // The hashes of one message, one line an output, in the room that is lent.
-fn outputs(message: &[u8], room: &mut [u8]) {
-    let table = OUTPUTS;
-    let mut i = 0;
-    while i < 6 {
-        show(message, room, table[i]);
-        i += 1;
+fn outputs<W: Write>(to: &mut W, message: &[u8], room: &mut [u8]) -> io::Result<()> {
+    for n in OUTPUTS {
+        show(to, message, room, n)?;
     }
+    Ok(())
 }
 
 // The variable-length hashes of one message, in the room that is lent.
-fn long_outputs(message: &[u8], room: &mut [u8]) {
-    let table = LONG_OUTPUTS;
-    let mut i = 0;
-    while i < 16 {
-        show_long(message, room, table[i]);
-        i += 1;
+fn long_outputs<W: Write>(to: &mut W, message: &[u8], room: &mut [u8]) -> io::Result<()> {
+    for n in LONG_OUTPUTS {
+        show_long(to, message, room, n)?;
     }
+    Ok(())
 }
 
 // The first n bytes; all where there are not as many.
@@ -131,28 +129,27 @@ fn front(bytes: &[u8], n: usize) -> &[u8] {
 }
 
 // The hashes of every message that the bytes have, in the room that is lent.
-fn sizes(bytes: &[u8], room: &mut [u8]) {
-    let table = SIZES;
-    let mut i = 0;
-    while i < 8 {
-        outputs(front(bytes, table[i]), room);
-        i += 1;
+fn sizes<W: Write>(to: &mut W, bytes: &[u8], room: &mut [u8]) -> io::Result<()> {
+    for n in SIZES {
+        outputs(to, front(bytes, n), room)?;
     }
+    Ok(())
 }
 
 // RFC 7693, appendix A.
-fn appendix_a() {
+fn appendix_a<W: Write>(to: &mut W) -> io::Result<()> {
     let mut out = [0u8; 64];
     hash(b"abc", &mut out);
-    io::write_all(STDOUT_FILENO, b"abc ");
-    write_hex(&out);
+    to.write_all(b"abc ")?;
+    write_hex(to, &out)
 }
 
-fn main() {
-    appendix_a();
+fn main(rt: HostRuntime) -> io::Result<()> {
+    let mut to = rt.stdout();
+    appendix_a(&mut to)?;
     let bytes = counting();
     let mut room = [0u8; 1024];
-    sizes(&bytes, &mut room);
-    long_outputs(front(&bytes, LONG_SIZE), &mut room);
-    argon::lines();
+    sizes(&mut to, &bytes, &mut room)?;
+    long_outputs(&mut to, front(&bytes, LONG_SIZE), &mut room)?;
+    argon::lines(&mut to)
 }
