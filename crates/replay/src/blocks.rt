@@ -37,11 +37,9 @@ fn next(seed: u64) -> u64 {
 fn draw(seed: u64) -> Drawn {
     let mut words = [0; Block::WORDS];
     let mut state = seed;
-    let mut k = 0;
-    while k < Block::WORDS {
+    for k in 0..Block::WORDS {
         state = next(state);
         words[k] = state;
-        k += 1;
     }
     Drawn {
         block: Block { words },
@@ -53,11 +51,9 @@ fn draw(seed: u64) -> Drawn {
 fn counting(first: u64) -> Block {
     let mut words = [0; Block::WORDS];
     let mut word = first;
-    let mut k = 0;
-    while k < Block::WORDS {
+    for k in 0..Block::WORDS {
         words[k] = word;
         word = std::num::wrapping_add_u64(word, 1);
-        k += 1;
     }
     Block { words }
 }
@@ -73,10 +69,8 @@ fn byte_at(words: &[u64; Block::WORDS], k: usize) -> u8
 // The bytes of a block.
 fn bytes(b: Block) -> [u8; Block::SIZE] {
     let mut bytes = [0u8; Block::SIZE];
-    let mut k = 0;
-    while k < Block::SIZE {
+    for k in 0..Block::SIZE {
         bytes[k] = byte_at(&b.words, k);
-        k += 1;
     }
     bytes
 }
@@ -94,13 +88,11 @@ fn print<W: Write>(out: &mut W, name: &str, b: Block) -> io::Result<()> {
 // Pairs of drawn blocks, compressed; the generator's state after them.
 fn pairs<W: Write>(out: &mut W, seed: u64) -> io::Result<u64> {
     let mut state = seed;
-    let mut i = 0;
-    while i < PAIRS {
+    for _ in 0..PAIRS {
         let x = draw(state);
         let y = draw(x.seed);
         print(out, "compress random  ", Block::compress(x.block, y.block))?;
         state = y.seed;
-        i += 1;
     }
     Ok(state)
 }
@@ -109,12 +101,10 @@ fn pairs<W: Write>(out: &mut W, seed: u64) -> io::Result<u64> {
 fn chain(first: Block, second: Block) -> Block {
     let mut x = first;
     let mut y = second;
-    let mut i = 0;
-    while i < CHAIN {
+    for _ in 0..CHAIN {
         let z = Block::compress(x, y);
         x = y;
         y = z;
-        i += 1;
     }
     y
 }

@@ -1,4 +1,6 @@
 // The recorded whole hashes, fillings and variable-length hashes.
+ghost use Rattle.std.specs.Prelude.{◌≤◌, IfOk};
+
 use crate::list::{
     LINE, NUMBERS, Text, count_words, differs, low, next_text, number, numbers, report, same,
 };
@@ -121,14 +123,14 @@ fn agreeing<R: Read, W: Write>(
     out: &mut W,
     recorded: u64,
     memory: &mut [u64],
-) -> io::Result<u64> {
+) -> io::Result<u64>
+    ensures { IfOk result (λ n. n ≤ recorded) }
+{
     let mut agree: u64 = 0;
-    let mut i = 0;
-    while i < recorded {
+    for _ in 0..recorded {
         if replay_case(list, out, &mut *memory)? {
             agree += 1;
         }
-        i += 1;
     }
     Ok(agree)
 }

@@ -1,4 +1,6 @@
 // The recorded steps and finishes, on jobs that are consistent and on jobs that are not.
+ghost use Rattle.std.specs.Prelude.{◌≤◌, IfOk};
+
 use crate::hashes::params;
 use crate::list::{
     LINE, NUMBERS, Text, count_words, differs, low, next_text, number, numbers, report, same,
@@ -24,10 +26,8 @@ const FIGURES: usize = 25;
 // The next positions, one for each lane.
 fn next_positions<R: Read>(list: &mut R) -> [u32; Job::LANES] {
     let mut positions = [0u32; Job::LANES];
-    let mut k = 0;
-    while k < Job::LANES {
+    for k in 0..Job::LANES {
         positions[k] = low(number(list));
-        k += 1;
     }
     positions
 }
@@ -168,14 +168,14 @@ fn agreeing<R: Read, W: Write>(
     out: &mut W,
     recorded: u64,
     memory: &mut [u64],
-) -> io::Result<u64> {
+) -> io::Result<u64>
+    ensures { IfOk result (λ n. n ≤ recorded) }
+{
     let mut agree: u64 = 0;
-    let mut i = 0;
-    while i < recorded {
+    for _ in 0..recorded {
         if replay_case(list, out, &mut *memory)? {
             agree += 1;
         }
-        i += 1;
     }
     Ok(agree)
 }

@@ -1,6 +1,5 @@
 // A packed list (oracle/pack): a count and so many cases, of numbers, 8 bytes little-endian, and of texts behind their counts.
 ghost use Rattle.std.specs.Prelude.{◌≤◌, length};
-ghost use Rattle.io.specs.Counts.{IsPrefixLen};
 
 use std::io;
 use std::io::{Read, Write};
@@ -22,7 +21,7 @@ impl Text {
 
     // The text of the first n bytes, at most of all.
     pub(crate) fn of(bytes: [u8; Text::MOST], n: u64) -> Text
-        ensures { IsPrefixLen result.count result.bytes }
+        ensures { result.count ≤ length result.bytes }
     {
         let most = Text::MOST;
         if (most as u64) < n {
@@ -57,17 +56,15 @@ pub(crate) fn number<R: Read>(list: &mut R) -> u64 {
 // The next numbers.
 pub(crate) fn numbers<R: Read>(list: &mut R) -> [u64; NUMBERS] {
     let mut numbers = [0u64; NUMBERS];
-    let mut k = 0;
-    while k < NUMBERS {
+    for k in 0..NUMBERS {
         numbers[k] = number(list);
-        k += 1;
     }
     numbers
 }
 
 // As many of the words as the number says, at most all of them.
 pub(crate) fn count_words(n: u64, words: &[u64]) -> usize
-    ensures { IsPrefixLen result words.now }
+    ensures { result ≤ length words.now }
 {
     if (words.len() as u64) < n {
         return words.len();
@@ -82,7 +79,7 @@ pub(crate) fn low(n: u64) -> u32 {
 
 // The next text.
 pub(crate) fn next_text<R: Read>(list: &mut R) -> Text
-    ensures { IsPrefixLen result.count result.bytes }
+    ensures { result.count ≤ length result.bytes }
 {
     let length = number(list);
     let empty = Text::of([0u8; Text::MOST], length);
@@ -94,7 +91,7 @@ pub(crate) fn next_text<R: Read>(list: &mut R) -> Text
 
 // Whether the bytes are those of the text.
 pub(crate) fn same(bytes: &[u8], text: Text) -> bool
-    requires { IsPrefixLen text.count text.bytes }
+    requires { text.count ≤ length text.bytes }
 {
     let expected = text.bytes;
     let count = text.count;

@@ -1,4 +1,6 @@
 // The recorded reference positions.
+ghost use Rattle.std.specs.Prelude.{◌≤◌, IfOk};
+
 use crate::list::{LINE, NUMBERS, differs, low, number, numbers, report};
 use position::{LaneNumber, reference_position};
 use std::io::{Read, Write};
@@ -34,14 +36,14 @@ fn replay_case<R: Read, W: Write>(list: &mut R, out: &mut W) -> io::Result<bool>
 }
 
 // How many of the cases agree.
-fn agreeing<R: Read, W: Write>(list: &mut R, out: &mut W, recorded: u64) -> io::Result<u64> {
+fn agreeing<R: Read, W: Write>(list: &mut R, out: &mut W, recorded: u64) -> io::Result<u64>
+    ensures { IfOk result (λ n. n ≤ recorded) }
+{
     let mut agree: u64 = 0;
-    let mut i = 0;
-    while i < recorded {
+    for _ in 0..recorded {
         if replay_case(list, out)? {
             agree += 1;
         }
-        i += 1;
     }
     Ok(agree)
 }

@@ -80,11 +80,9 @@ fn lane_at(order: u64, i: usize, lanes: u32, random: u64) -> u32 {
 fn schedule(order: u64, lanes: u32) -> [u32; TURNS] {
     let mut plan = [0u32; TURNS];
     let mut random = order % 64 + 1;
-    let mut i = 0;
-    while i < TURNS {
+    for i in 0..TURNS {
         random = next(random);
         plan[i] = lane_at(order, i, lanes, random);
-        i += 1;
     }
     plan
 }
@@ -97,11 +95,9 @@ fn dirty_word(needed: bool, random: u64) -> u64 {
 // Words at random, and marks behind them.
 fn dirty(words: &mut [u64], needed: usize, seed: u64) {
     let mut x = seed;
-    let mut i = 0;
-    while i < words.len() {
+    for i in 0..words.len() {
         x = next(x);
         words[i] = dirty_word(i < needed, x);
-        i += 1;
     }
 }
 
@@ -116,12 +112,10 @@ fn first_words(words: &[u64], n: usize) -> &[u64] {
 // How many of the words behind hold another thing than the mark.
 fn changed(words: &[u64], needed: usize) -> usize {
     let mut n = 0;
-    let mut i = needed;
-    while i < words.len() {
+    for i in needed..words.len() {
         if words[i] != MARK {
             n = i;
         }
-        i += 1;
     }
     n
 }

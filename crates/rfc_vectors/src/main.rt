@@ -96,10 +96,8 @@ fn show_long<W: Write>(to: &mut W, message: &[u8], room: &mut [u8], n: usize) ->
 // The bytes 0, 1, .., 255, 0, 1, ..
 fn counting() -> [u8; 1000] {
     let mut bytes = [0u8; 1000];
-    let mut i = 0;
-    while i < 1000 {
+    for i in 0..1000 {
         bytes[i] = (i % 256) as u8;
-        i += 1;
     }
     bytes
 }
