@@ -1,0 +1,2 @@
+mod Successes
+mod TwoReads
