@@ -1,19 +1,17 @@
 -- The promise of `answer_line`, from what was parsed, what the hash gave and what was written. Assumes nothing.
 use Prim.Native.Nat.{ℕ, zero, suc, ◌≤◌, ◌<◌}
-use mathlib.Core.Bool.{Bool, true, false, cond}
-use mathlib.Core.List.{List, [], ◌∷◌, ◌++◌}
+use mathlib.Core.List.{List, ◌∷◌, ◌++◌}
 use mathlib.Core.Path.{◌≡◌, refl, sym, ap, ◌∙◌}
 use native.Mathlib.Omega.{arith}
 use borrow.Author.Tests.{lt-ltb, le-ltb, eq-eqb, ne_eqb}
-use lib.Dec.{ltb}
 use lib.ListN.{length, take, drop, replicate, length-append}
 use lib.Seq.{length-take-le, take_at}
 use Rattle.answer.specs.Answers.{number}
 use Rattle.answer.specs.declared.Answer.{Answer}
 use Rattle.argon2.specs.Promises.{HashPromise}
-use Rattle.case_line.specs.Answers.{part, hash_of, result_text, Answered, answer_text, memory_after}
+use Rattle.case_line.specs.Answers.{part, hash_of, Answered, answer_text, memory_after}
 use Rattle.case_line.specs.Cases.{parsed}
-use Rattle.case_line.specs.Lines.{line_bytes, refused_words, numbered_text, tag_text, on_line, Written}
+use Rattle.case_line.specs.Lines.{line_bytes, refused_words, numbered_text, tag_text, Written}
 use Rattle.case_line.specs.Promises.{AnswerLinePromise}
 use Rattle.case_line.specs.declared.sections.Case.{Case}
 use Rattle.case_line.specs.declared.sections.Parsed.{Parsed}

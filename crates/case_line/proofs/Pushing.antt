@@ -6,13 +6,13 @@ use native.Mathlib.Numerals.{add-one}
 use native.Mathlib.Omega.{arith}
 use borrow.Author.Tests.{lt-ltb, le-ltb}
 use lib.ListN.{length, take, drop, get_or, set, length-append, length-drop}
-use lib.Seq.{drop-cons, drop-drop, drop-append_seam, drop-append-add, set-append_seam, take_all, take-length, take-suc}
+use lib.Seq.{drop-cons, set-append_seam, take_all, take-suc}
 use Rattle.hex_text.specs.Hex.{hex_of, hex_digits}
 use Rattle.case_line.specs.Lines.{tag_word, newline, tag_text, numbered_text, on_line, Written}
 
 -- all of a list was copied to the start of a line
-pub copied : (t d d' : List ℕ) (r : ℕ) → r ≡ length t → d' ≡ take (length t) t ++ drop (length t) d → Written t d d' r
-copied t d d' r e h = record { bytes = h ∙ rw (take-length t); count = e }
+pub copied : (t d : List ℕ) {p : List ℕ} {n : ℕ} → n ≡ length t → p ≡ t → Written t d (p ++ drop n d) n
+copied t d e h = record { bytes = rw (h, e); count = e }
 
 push : (t d : List ℕ) (x : ℕ) → length t < length d → set (on_line t d) (length t) x ≡ on_line (t ++ (x ∷ [])) d
 push t d x h =
@@ -26,23 +26,6 @@ push t d x h =
 pub pushed : {t d l : List ℕ} {i j : ℕ} (x : ℕ) → Written t d l i → i < length d → j ≡ i + 1 → Written (t ++ (x ∷ [])) d (set l i x) j
 pushed {t} {d} {l} {i} {j} x w h e =
     record { bytes = rw (w.bytes, w.count) (push t d x (omega (arith, w.count))); count = simp length-append (omega (arith, w.count)) }
-
--- a text stands on the line that it is written on
-pub again : {t d l : List ℕ} {i : ℕ} → Written t d l i → Written t l l i
-again {t} {d} {l} {i} w =
-    record {
-      bytes = w.bytes ∙ ap (λ (x : List ℕ). t ++ x) (sym (ap (drop (length t)) w.bytes ∙ drop-append_seam t (drop (length t) d)));
-      count = w.count;
-    }
-
--- a longer text over a shorter one, which it begins with
-pub longer : {t d e l : List ℕ} {i j : ℕ} (x : List ℕ) → Written t d e j → Written (t ++ x) e l i → Written (t ++ x) d l i
-longer {t} {d} {e} {l} x v w = record { bytes = w.bytes ∙ ap (λ (y : List ℕ). (t ++ x) ++ y) rest; count = w.count }
-  where
-    rest : drop (length (t ++ x)) e ≡ drop (length (t ++ x)) d
-    rest =
-        ap (drop (length (t ++ x))) v.bytes
-        ∙ rw (length-append t x) (drop-append-add t (drop (length t) d) (length x) ∙ drop-drop (length x) (length t) d)
 
 -- a text by another name
 pub renamed : {t u d l : List ℕ} {i : ℕ} → t ≡ u → Written t d l i → Written u d l i
@@ -83,3 +66,33 @@ one_digit words n h = rw (lt-ltb n 10 h)
 
 pub two_digits : (words : List ℕ) (n : ℕ) → 10 ≤ n → ((words ++ ((48 + n / 10) ∷ [])) ++ ((48 + n % 10) ∷ [])) ++ newline ≡ numbered_text words n
 two_digits words n h = rw (le-ltb n 10 h) (simp append_assoc)
+
+-- the line of `write_number`: the words were copied, and the digits and the newline are set after them
+one_line : (words line : List ℕ) (n : ℕ) → n < 10 → length words + 3 ≤ length line
+    → Written (numbered_text words n) line (set (set (words ++ drop (length words) line) (length words) (48 + n)) (length words + 1) 10) (length words + 2)
+one_line words line n h room =
+    renamed (one_digit words n h) (pushed 10 (pushed (48 + n) (copied words line refl refl) (omega arith) refl) (omega arith) (omega arith))
+
+two_line : (words line : List ℕ) (n : ℕ) → 10 ≤ n → length words + 3 ≤ length line
+    → Written (numbered_text words n) line
+    (set (set (set (words ++ drop (length words) line) (length words) (48 + n / 10)) (length words + 1) (48 + n % 10)) (length words + 2) 10)
+    (length words + 3)
+two_line words line n h room =
+    renamed (two_digits words n h)
+    (pushed 10 (pushed (48 + n % 10) (pushed (48 + n / 10) (copied words line refl refl) (omega arith) refl) (omega arith) (omega arith)) (omega arith) (omega arith))
+
+-- the same as equations, for `grind`
+pub one_bytes : (words line : List ℕ) (n : ℕ) → n < 10 → length words + 3 ≤ length line
+    → set (set (words ++ drop (length words) line) (length words) (48 + n)) (length words + 1) 10 ≡ on_line (numbered_text words n) line
+one_bytes words line n h room = (one_line words line n h room).bytes
+
+pub two_bytes : (words line : List ℕ) (n : ℕ) → 10 ≤ n → length words + 3 ≤ length line
+    → set (set (set (words ++ drop (length words) line) (length words) (48 + n / 10)) (length words + 1) (48 + n % 10)) (length words + 2) 10
+    ≡ on_line (numbered_text words n) line
+two_bytes words line n h room = (two_line words line n h room).bytes
+
+pub one_count : (words : List ℕ) (n : ℕ) → n < 10 → length (numbered_text words n) ≡ length words + 2
+one_count words n h = rw (lt-ltb n 10 h) (simp length-append (omega arith))
+
+pub two_count : (words : List ℕ) (n : ℕ) → 10 ≤ n → length (numbered_text words n) ≡ length words + 3
+two_count words n h = rw (le-ltb n 10 h) (simp length-append (omega arith))

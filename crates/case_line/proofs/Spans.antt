@@ -1,6 +1,6 @@
 -- What a parsed case is known by: its sections lie in the input, one after the other, and a bad section's number is a digit.
 -- Each definition's tests are gone through once, for any property of what it gives. Assumes nothing.
-use Prim.Native.Nat.{ℕ, ◌+◌, ◌*◌, ◌≤◌, ◌<◌}
+use Prim.Native.Nat.{ℕ, ◌+◌, ◌≤◌, ◌<◌}
 use mathlib.Core.Bool.{Bool, true, false, cond, not, ◌||◌}
 use mathlib.Core.List.{List}
 use mathlib.Core.Path.{◌≡◌, refl, subst}

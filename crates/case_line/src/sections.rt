@@ -155,6 +155,7 @@ fn with_password(s: &[u8], password: Span) -> Parsed
 }
 
 // One case, or its first bad section: 1 where it is cut, its count is not 7 or the tag length is over 256; then the password.
+#[tactic(auto, unfolding(crate::specs::Cases::parsed, crate::specs::Cases::numbers_bad))]
 pub fn parse(input: &[u8]) -> Parsed
     ensures { ParsePromise input.now result }
 {

@@ -1,0 +1,12 @@
+-- `case_line::with_password` meets its contract: the section is cut, or it is read and the rest is `with_salt`'s. Assumes nothing.
+use Rattle.std.proofs.Common.{sym, ◌∙◌}
+use Rattle.case_line.specs.Cases.{with_password}
+use Rattle.case_line.proofs.sections.with_password.Goals as goal
+
+pub returns-in-Cut : goal.returns-in-Cut
+unfolding with_password
+returns-in-Cut c = rw (sym c.section_at.ensures ∙ c.in-Cut.is)
+
+pub returns-in-Body : goal.returns-in-Body
+unfolding with_password
+returns-in-Body c = rw (sym c.section_at.ensures ∙ c.in-Body.is) c.with_salt.ensures
