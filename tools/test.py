@@ -93,6 +93,8 @@ def proofs_fault(lines):
     bad = re.search(r"(\d+) bad\b", told[0])
     if bad and int(bad[1]) > 0:
         return f"{bad[1]} bad must-fail edits, which rt ci names above"
+    if "only by a limit" in told[0]:
+        return "a must-fail edit was refused only by a limit of the prover"
     refused = re.search(r"must-fail edits: (\d+) refused", told[0])
     count, edits = int(refused[1]) if refused else 0, len(list((TOP / "crates").glob("*/must-fail/*.edit")))
     return None if count == edits else f"{count} must-fail edits were refused, and there are {edits}"
