@@ -125,6 +125,7 @@ fn finished_length(segment: u64, pass: u32, slice: u32) -> u64
 }
 
 // The area: the finished segments, and the own lane's blocks of this one but the previous; in another lane less 1 for block 0.
+#[tactic(auto, using(crate::proofs::Lane::finished_le, std::proofs::lemmas::Bool::Decides::nat_tests), unfolding(crate::specs::Position::area))]
 fn area(segment: u64, pass: u32, slice: u32, block: u64, own: bool) -> u64
     requires { (slices * segment ≤ max_memory)
         × (slice < slices)

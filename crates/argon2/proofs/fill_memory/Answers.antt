@@ -40,7 +40,7 @@ returns c =
     let memory : List ℕ = let a = c.args in filled a.params 0 a.password.now a.salt.now a.secret.now a.ad.now a.words.now in
     let checked : number c.check_fill-answer.result ≡ answer = rw c.plain-rule.ensures.result at c.check_fill-answer.ensures.answer in
     let numbered : c.number.result ≡ answer = c.number.ensures.result ∙ checked in
-    let accepted : answer ≡ 0 = omega (arith, numbered, c.if-number-ne0.false) in
+    let accepted : answer ≡ 0 = omega (arith, numbered) in
     let lent : Lent c.args.params (length c.args.words.now) = let a = c.args in
     fill_lent a.params (length a.password.now) (length a.salt.now) (length a.secret.now) (length a.ad.now) (length a.words.now)
     accepted in

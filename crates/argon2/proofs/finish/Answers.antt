@@ -20,7 +20,7 @@ returns-then-number-ne0 c =
     let answer : ℕ = first (finish_rows c.args.job (length c.args.words.now) (length c.args.out.now)) in
     let numbered : c.number.result ≡ answer = c.number.ensures.result ∙ c.check_finish-checked.ensures.answer in
     let a = c.args in
-    let refused : answer ≡ 0 → ⊥ = λ z. omega (arith, numbered, c.if-number-ne0.true, z) in
+    let refused : answer ≡ 0 → ⊥ = λ z. omega (arith, numbered, z) in
     record {
       answer = c.check_finish-checked.ensures.answer;
       output = sym (left_old answer (tag_of a.job.params (length a.out.now) a.words.now) a.out.now refused);
@@ -31,7 +31,7 @@ unfolding finished
 returns c =
     let answer : ℕ = first (finish_rows c.args.job (length c.args.words.now) (length c.args.out.now)) in
     let numbered : c.number.result ≡ answer = c.number.ensures.result ∙ c.check_finish-checked.ensures.answer in
-    let accepted : answer ≡ 0 = omega (arith, numbered, c.if-number-ne0.false) in
+    let accepted : answer ≡ 0 = omega (arith, numbered) in
     let a = c.args in
     let f = finishing a.job (length a.words.now) (length a.out.now) accepted in
     let some = tag_some a.job.params a.job.tag f.complete.numbers f.complete.tag in

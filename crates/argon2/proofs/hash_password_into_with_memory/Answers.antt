@@ -49,7 +49,7 @@ returns c =
     let output : List ℕ = tag_of c.args.params (length c.args.out.now) memory in
     let checked : number c.check_start-verdict.result ≡ answer = rw c.plain-rule.ensures.result at c.check_start-verdict.ensures.answer in
     let numbered : c.number.result ≡ answer = c.number.ensures.result ∙ checked in
-    let accepted : answer ≡ 0 = omega (arith, numbered, c.if-number-ne0.false) in
+    let accepted : answer ≡ 0 = omega (arith, numbered) in
     let lent : Lent c.args.params (length c.args.words.now) = let a = c.args in
     start_lent a.params (length a.password.now) (length a.salt.now) (length a.secret.now) (length a.ad.now) (length a.words.now)
     (length a.out.now) accepted in

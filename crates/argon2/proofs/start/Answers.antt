@@ -45,7 +45,7 @@ returns c =
     start_memory (initial_hash a.params a.tag a.password.now a.salt.now a.secret.now a.ad.now) a.params.lanes (segment a.params) a.words.now in
     let checked : number c.check_start-answer.result ≡ answer = rw c.plain-rule.ensures.result at c.check_start-answer.ensures.answer in
     let numbered : c.number.result ≡ answer = c.number.ensures.result ∙ checked in
-    let accepted : answer ≡ 0 = omega (arith, numbered, c.if-number-ne0.false) in
+    let accepted : answer ≡ 0 = omega (arith, numbered) in
     let lent : let a = c.args in Lent a.params (length a.words.now) = let a = c.args in
     start_lent a.params (length a.password.now) (length a.salt.now) (length a.secret.now) (length a.ad.now) (length a.words.now)
     a.tag accepted in

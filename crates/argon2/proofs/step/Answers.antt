@@ -32,7 +32,7 @@ pub returns : goal.returns
 unfolding stepped
 returns c =
     let numbered : let a = c.args in c.number.result ≡ first (step_rows a.job (length a.words.now) a.lane.0) = c.number.ensures.result ∙ c.after-next.ensures.answer in
-    let accepted : let a = c.args in first (step_rows a.job (length a.words.now) a.lane.0) ≡ 0 = omega (arith, numbered, c.if-number-ne0.false) in
+    let accepted : let a = c.args in first (step_rows a.job (length a.words.now) a.lane.0) ≡ 0 = omega (arith, numbered) in
     let is_ready : let a = c.args in Ready a.job (length a.words.now) a.lane.0 = let a = c.args in
     ready a.job (length a.words.now) a.lane.0 accepted in
     let a = c.args in
@@ -65,7 +65,7 @@ returns c =
 pub overflow_add-block : goal.overflow_add-block
 overflow_add-block c =
     let numbered : let a = c.args in c.number.result ≡ first (step_rows a.job (length a.words.now) a.lane.0) = c.number.ensures.result ∙ c.after-next.ensures.answer in
-    let accepted : let a = c.args in first (step_rows a.job (length a.words.now) a.lane.0) ≡ 0 = omega (arith, numbered, c.if-number-ne0.false) in
+    let accepted : let a = c.args in first (step_rows a.job (length a.words.now) a.lane.0) ≡ 0 = omega (arith, numbered) in
     let is_ready : let a = c.args in Ready a.job (length a.words.now) a.lane.0 = let a = c.args in
     ready a.job (length a.words.now) a.lane.0 accepted in
     let P = c.args.job.params in
