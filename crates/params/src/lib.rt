@@ -36,6 +36,16 @@ pub struct Params {
     pub configured: Configured,
 }
 
+// What a key is derived from, beside the parameters.
+#[derive(Clone, Copy)]
+pub struct Inputs<'a> {
+    pub password: &'a [u8],
+    pub salt: &'a [u8],
+    pub secret: &'a [u8],
+    // The associated data.
+    pub ad: &'a [u8],
+}
+
 impl Params {
     // Algorithms d, i and id.
     pub const D: u32 = 0;

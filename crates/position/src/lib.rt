@@ -28,6 +28,14 @@ impl BlockNumber {
     }
 }
 
+// A segment of the memory: a lane's part of one slice of a pass.
+#[derive(Clone, Copy)]
+pub struct Segment {
+    pub pass: u32,
+    pub slice: u32,
+    pub lane: LaneNumber,
+}
+
 // A reference position: an answer, and the lane and the block within it.
 #[derive(Clone, Copy)]
 pub struct Reference {
