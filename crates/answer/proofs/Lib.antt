@@ -1,4 +1,4 @@
 pub mod Answered
-pub mod Number
+pub mod Numbers
 pub mod Rows
 pub mod Settled

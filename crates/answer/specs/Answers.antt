@@ -1,32 +1,36 @@
 -- Document 01, "Answers": the number of each answer, and the rows of a check.
-use Rattle.std.specs.Prelude.{ℕ, Bool, cond, List, [], ◌∷◌, ltb, eqb}
-use Rattle.answer.specs.declared.Answer.{Answer}
-use Rattle.answer.specs.declared.Answer.TheVariants.{Accepted, AlgorithmInvalid, VersionInvalid, ThreadsTooFew, ThreadsTooMany, MemoryTooSmall, MemoryTooMuch, TimeTooSmall, TagTooShort, AdTooLong, SecretTooLong, OutputTooShort, OutputTooLong, PwdTooLong, SaltTooShort, SaltTooLong, MemoryTooLittle, Inconsistent, Complete, NoSuchLane, LaneFinished, NotComplete}
+use Rattle.std.specs.Prelude.{ℕ, Bool, cond, List, [], ◌∷◌, ltb, eqb, Result, Ok, Err}
+use Rattle.answer.specs.declared.Refusal.{Refusal}
+use Rattle.answer.specs.declared.Refusal.TheVariants.{AlgorithmInvalid, VersionInvalid, ThreadsTooFew, ThreadsTooMany, MemoryTooSmall, MemoryTooMuch, TimeTooSmall, TagTooShort, AdTooLong, SecretTooLong, OutputTooShort, OutputTooLong, PwdTooLong, SaltTooShort, SaltTooLong, MemoryTooLittle, Inconsistent, Complete, NoSuchLane, LaneFinished, NotComplete}
 
 -- the table's first column
-abbrev pub number : Answer → ℕ
-number Accepted = 0
-number AlgorithmInvalid = 1
-number VersionInvalid = 2
-number ThreadsTooFew = 3
-number ThreadsTooMany = 4
-number MemoryTooSmall = 5
-number MemoryTooMuch = 6
-number TimeTooSmall = 7
-number TagTooShort = 8
-number AdTooLong = 9
-number SecretTooLong = 10
-number OutputTooShort = 11
-number OutputTooLong = 12
-number PwdTooLong = 13
-number SaltTooShort = 14
-number SaltTooLong = 15
-number MemoryTooLittle = 16
-number Inconsistent = 17
-number Complete = 18
-number NoSuchLane = 19
-number LaneFinished = 20
-number NotComplete = 21
+abbrev pub refusal : Refusal → ℕ
+refusal AlgorithmInvalid = 1
+refusal VersionInvalid = 2
+refusal ThreadsTooFew = 3
+refusal ThreadsTooMany = 4
+refusal MemoryTooSmall = 5
+refusal MemoryTooMuch = 6
+refusal TimeTooSmall = 7
+refusal TagTooShort = 8
+refusal AdTooLong = 9
+refusal SecretTooLong = 10
+refusal OutputTooShort = 11
+refusal OutputTooLong = 12
+refusal PwdTooLong = 13
+refusal SaltTooShort = 14
+refusal SaltTooLong = 15
+refusal MemoryTooLittle = 16
+refusal Inconsistent = 17
+refusal Complete = 18
+refusal NoSuchLane = 19
+refusal LaneFinished = 20
+refusal NotComplete = 21
+
+-- an answer's number: 0 where it accepts
+abbrev pub number : {T : Type 0} → Result T Refusal → ℕ
+number (Ok _) = 0
+number (Err r) = refusal r
 
 -- a row: a number, and the test by which it is given
 infixl 20 ◌when◌

@@ -4,73 +4,51 @@
 
 ghost use Rattle.answer.specs.Promises.{NumberPromise, CheckLengthPromise};
 
-#[derive(Clone, Copy)]
-pub enum Answer {
-    Accepted,
-    AlgorithmInvalid,
-    VersionInvalid,
-    ThreadsTooFew,
-    ThreadsTooMany,
-    MemoryTooSmall,
-    MemoryTooMuch,
-    TimeTooSmall,
-    TagTooShort,
-    AdTooLong,
-    SecretTooLong,
-    OutputTooShort,
-    OutputTooLong,
-    PwdTooLong,
-    SaltTooShort,
-    SaltTooLong,
-    MemoryTooLittle,
-    Inconsistent,
-    Complete,
-    NoSuchLane,
-    LaneFinished,
-    NotComplete,
+// Why a call is refused; the number is the table's first column.
+#[derive(Clone, Copy, Debug, PartialEq, Eq)]
+pub enum Refusal {
+    AlgorithmInvalid = 1,
+    VersionInvalid = 2,
+    ThreadsTooFew = 3,
+    ThreadsTooMany = 4,
+    MemoryTooSmall = 5,
+    MemoryTooMuch = 6,
+    TimeTooSmall = 7,
+    TagTooShort = 8,
+    AdTooLong = 9,
+    SecretTooLong = 10,
+    OutputTooShort = 11,
+    OutputTooLong = 12,
+    PwdTooLong = 13,
+    SaltTooShort = 14,
+    SaltTooLong = 15,
+    MemoryTooLittle = 16,
+    Inconsistent = 17,
+    Complete = 18,
+    NoSuchLane = 19,
+    LaneFinished = 20,
+    NotComplete = 21,
 }
 
-impl Answer {
-    // Document 01's number of an answer.
-    pub fn number(self) -> u32
-        ensures { NumberPromise self result }
-    {
-        match self {
-            Answer::Accepted => 0,
-            Answer::AlgorithmInvalid => 1,
-            Answer::VersionInvalid => 2,
-            Answer::ThreadsTooFew => 3,
-            Answer::ThreadsTooMany => 4,
-            Answer::MemoryTooSmall => 5,
-            Answer::MemoryTooMuch => 6,
-            Answer::TimeTooSmall => 7,
-            Answer::TagTooShort => 8,
-            Answer::AdTooLong => 9,
-            Answer::SecretTooLong => 10,
-            Answer::OutputTooShort => 11,
-            Answer::OutputTooLong => 12,
-            Answer::PwdTooLong => 13,
-            Answer::SaltTooShort => 14,
-            Answer::SaltTooLong => 15,
-            Answer::MemoryTooLittle => 16,
-            Answer::Inconsistent => 17,
-            Answer::Complete => 18,
-            Answer::NoSuchLane => 19,
-            Answer::LaneFinished => 20,
-            Answer::NotComplete => 21,
-        }
+// An answer's number: 0 where it accepts.
+pub fn number(answer: Result<(), Refusal>) -> u32
+    ensures { NumberPromise answer result }
+{
+    match answer {
+        Ok(()) => 0,
+        Err(refusal) => refusal as u32,
     }
 }
 
 // Rows 11 and 12, for an output of n bytes that may have from least to most.
-pub fn check_length(least: usize, most: usize, n: usize) -> Answer
+pub fn check_length(least: usize, most: usize, n: usize) -> Result<(), Refusal>
     ensures { CheckLengthPromise least most n result }
 {
     if n < least {
-        return Answer::OutputTooShort;
+        return Err(Refusal::OutputTooShort);
     }
     if most < n {
-        return Answer::OutputTooLong;
+        return Err(Refusal::OutputTooLong);
     }
-    Answer::Accepted
+    Ok(())
 }

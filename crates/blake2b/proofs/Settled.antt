@@ -2,8 +2,9 @@
 use Prim.Native.Nat.{ℕ}
 use mathlib.Core.List.{List}
 use mathlib.Core.Path.{◌≡◌, sym, ◌∙◌}
-use Rattle.answer.specs.declared.Answer.{Answer}
-use Rattle.answer.proofs.Number.{injective}
+use Rattle.std.specs.Prelude.{⊤, Result}
+use Rattle.answer.specs.declared.Refusal.{Refusal}
+use Rattle.answer.proofs.Numbers.{injective}
 use Rattle.blake2b.specs.declared.Engine.{Engine}
 use Rattle.blake2b.specs.Promises.{InitialPromise, BeginPromise, FeedPromise, EndPromise, HashPromise}
 
@@ -19,5 +20,5 @@ feed_settled p p' = p.result ∙ sym p'.result
 pub end_settled : {s : Engine} {r r' : List ℕ} → EndPromise s r → EndPromise s r' → r ≡ r'
 end_settled p p' = p.result ∙ sym p'.result
 
-pub hash_settled : {input out x x' : List ℕ} {r r' : Answer} → HashPromise input out r x → HashPromise input out r' x' → (r ≡ r') × (x ≡ x')
+pub hash_settled : {input out x x' : List ℕ} {r r' : Result ⊤ Refusal} → HashPromise input out r x → HashPromise input out r' x' → (r ≡ r') × (x ≡ x')
 hash_settled p p' = (injective (p.answer ∙ sym p'.answer), p.output ∙ sym p'.output)

@@ -6,7 +6,7 @@ ghost use Rattle.std.specs.Prelude.{◌≡◌};
 ghost use Rattle.blake2b.specs.Blake2b.{parameter};
 ghost use Rattle.blake2b.specs.Promises.{InitialPromise, BeginPromise, FeedPromise, EndPromise, HashPromise};
 
-use answer::{Answer, check_length};
+use answer::{Refusal, check_length};
 use blake2b_compression::{Compression, Count, compress};
 use word::store_words;
 
@@ -113,18 +113,12 @@ impl Engine {
 }
 
 // The hash of the input, of as many bytes as out has: 1 to 64.
-pub fn hash(input: &[u8], out: &mut [u8]) -> Answer
+pub fn hash(input: &[u8], out: &mut [u8]) -> Result<(), Refusal>
     ensures { HashPromise input.now out.old result out.new }
 {
     let n = out.len();
-    let a = check_length(1, Engine::MAX_OUTPUT, n);
-    if a.number() != 0 {
-        return a;
-    }
-    let s = Engine::begin(Engine::initial(n));
-    let s = s.feed(input);
-    let d = s.end();
-    let whole = &d[..];
-    out.copy_from_slice(&whole[..n]);
-    a
+    check_length(1, Engine::MAX_OUTPUT, n)?;
+    let d = Engine::begin(Engine::initial(n)).feed(input).end();
+    out.copy_from_slice(&d[..n]);
+    Ok(())
 }

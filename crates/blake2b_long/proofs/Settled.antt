@@ -3,7 +3,7 @@ use mathlib.Core.List.{List}
 use mathlib.Core.Path.{◌≡◌, sym, ◌∙◌}
 use Prim.Native.Nat.{ℕ}
 use Rattle.answer.specs.declared.Answer.{Answer}
-use Rattle.answer.proofs.Number.{injective}
+use Rattle.answer.proofs.Numbers.{injective}
 use Rattle.blake2b_long.specs.Promises.{LongPromise}
 
 pub long_settled : {input out x x' : List ℕ} {r r' : Answer} → LongPromise input out r x → LongPromise input out r' x' → (r ≡ r') × (x ≡ x')

@@ -3,7 +3,7 @@ use Prim.Native.Nat.{ℕ}
 use mathlib.Core.Bool.{Bool}
 use mathlib.Core.Path.{◌≡◌, sym, ◌∙◌}
 use Rattle.answer.specs.declared.Answer.{Answer}
-use Rattle.answer.proofs.Number.{injective}
+use Rattle.answer.proofs.Numbers.{injective}
 use Rattle.params.specs.declared.Params.{Params}
 use Rattle.job.specs.Promises.{ZerosPromise, JobStartPromise, ConsistentPromise, PositionPromise, CheckStepPromise, CheckFinishPromise, AfterPromise}
 use Rattle.job.specs.declared.Job.{Job}

@@ -2,7 +2,7 @@
 use Prim.Native.Nat.{ℕ}
 use mathlib.Core.Path.{◌≡◌, sym, ◌∙◌}
 use Rattle.answer.specs.declared.Answer.{Answer}
-use Rattle.answer.proofs.Number.{injective}
+use Rattle.answer.proofs.Numbers.{injective}
 use Rattle.params.specs.Promises.{FromNumbersPromise, CostsPromise, CheckNumbersPromise, CheckFromPromise, CheckPromise, SegmentOfPromise, SegmentPromise, LanePromise, BlocksPromise}
 use Rattle.params.specs.declared.Params.{Params}
 

@@ -2,7 +2,7 @@
 use Prim.Native.Nat.{ℕ}
 use mathlib.Core.Path.{◌≡◌, sym, ap, ◌∙◌}
 use Rattle.answer.specs.declared.Answer.{Answer}
-use Rattle.answer.proofs.Number.{injective}
+use Rattle.answer.proofs.Numbers.{injective}
 use Rattle.params.specs.declared.Params.{Params}
 use Rattle.position.specs.Promises.{FirstBlockPromise, InMemoryPromise, ColumnPromise, PreviousColumnPromise, IndexPromise, ReferencePromise}
 use Rattle.position.specs.declared.BlockNumber.{BlockNumber}

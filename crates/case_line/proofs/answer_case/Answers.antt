@@ -4,7 +4,7 @@ use Prim.Native.Nat.{ℕ, ◌≤◌}
 use mathlib.Core.Path.{◌≡◌, ap, ◌∙◌}
 use native.Mathlib.Omega.{arith}
 use lib.ListN.{length, take, replicate, length-replicate}
-use Rattle.answer.proofs.Number.{number_lt}
+use Rattle.answer.proofs.Numbers.{number_lt}
 use Rattle.case_line.specs.Cases.{max_tag}
 use Rattle.case_line.proofs.Answering.{zeros, Front, lent, accepted, refused}
 use Rattle.case_line.proofs.answer_case.Goals as goal
