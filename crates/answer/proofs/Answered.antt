@@ -5,7 +5,9 @@ use mathlib.Core.List.{List, ◌++◌}
 use mathlib.Core.Path.{◌≡◌, refl, sym, ap, ◌∙◌}
 use lib.Dec.{T, eqb}
 use borrow.Author.Tests.{ltb-false, eqb-true, eqb-false, eq-eqb, ne_eqb}
-use Rattle.answer.specs.Answers.{Row, first, if_accepted, length_rows}
+use Rattle.answer.specs.Answers.{Row, refusal, first, if_accepted, length_rows}
+use Rattle.answer.specs.declared.Refusal.{Refusal}
+use Rattle.answer.proofs.Numbers.{refused}
 use Rattle.answer.proofs.Rows.{refusals, passed, first_refused, first_passed}
 
 pub first_parts : (xs ys : List Row) → T (refusals xs) → if_accepted (first xs) (first ys) (first xs) ≡ first (xs ++ ys)
@@ -18,6 +20,14 @@ first_parts xs ys t = go (eqb (first xs) 0) refl
 -- a and b are the parts' answers, and r that of both
 pub joined : (xs ys : List Row) → T (refusals xs) → {a b r : ℕ} → a ≡ first xs → b ≡ first ys → r ≡ if_accepted a b a → r ≡ first (xs ++ ys)
 joined xs ys t p q e = e ∙ rw (p, q) (first_parts xs ys t)
+
+-- a refusal of the first part is the whole list's
+pub part_refused : (e : Refusal) (xs ys : List Row) → refusal e ≡ first xs → refusal e ≡ first (xs ++ ys)
+part_refused e xs ys p = p ∙ sym (first_refused xs ys (λ z. refused e (p ∙ z)))
+
+-- where the first part accepts, the answer is the rest's
+pub part_passed : (xs ys : List Row) {n : ℕ} → T (refusals xs) → 0 ≡ first xs → n ≡ first ys → n ≡ first (xs ++ ys)
+part_passed xs ys t p q = q ∙ sym (first_passed xs ys t (sym p))
 
 -- the new value is left, or the old one
 pub left_new : {A : Type 0} (n : ℕ) (new old : A) → n ≡ 0 → if_accepted n new old ≡ new

@@ -1,8 +1,6 @@
 -- Document 01, "Domain and sizes" and "Answers": the limits of the parameters, a row each, and the sizes.
-use Rattle.std.specs.Prelude.{ℕ, ◌*◌, ◌/◌, Bool, false, cond, not, ◌||◌, List, [], ◌∷◌, ◌++◌, ltb, eqb}
+use Rattle.std.specs.Prelude.{ℕ, ◌*◌, ◌/◌, Bool, false, cond, not, ◌||◌, List, [], ◌∷◌, ◌++◌, ltb, eqb, Option, None, Some}
 use Rattle.answer.specs.Answers.{Row, ◌when◌}
-use Rattle.params.specs.declared.Configured.{Configured}
-use Rattle.params.specs.declared.Configured.TheVariants.{Absent, Length}
 use Rattle.params.specs.declared.Params.{Params}
 
 -- algorithm d is 0, i is 1, id is 2; version is 16 or 19
@@ -37,8 +35,8 @@ abbrev pub min_tag : ℕ
 min_tag = 4
 
 -- where one number has to say it (the program, the C boundary), a configured length of 0 stands for none
-abbrev pub configured_of : ℕ → Configured
-configured_of n = cond (eqb n 0) Absent (Length n)
+abbrev pub configured_of : ℕ → Option ℕ
+configured_of n = cond (eqb n 0) None (Some n)
 
 abbrev pub from_numbers : ℕ → ℕ → ℕ → ℕ → ℕ → ℕ → Params
 from_numbers algorithm version memory passes lanes configured =
@@ -85,11 +83,11 @@ abbrev pub time_too_small : ℕ → Row
 time_too_small t = 7 when eqb t 0
 
 -- 8: configured tag length under 4
-abbrev pub under_min_tag : Configured → Bool
-under_min_tag Absent = false
-under_min_tag (Length n) = ltb n min_tag
+abbrev pub under_min_tag : Option ℕ → Bool
+under_min_tag None = false
+under_min_tag (Some n) = ltb n min_tag
 
-abbrev pub tag_too_short : Configured → Row
+abbrev pub tag_too_short : Option ℕ → Row
 tag_too_short configured = 8 when under_min_tag configured
 
 -- rows 3 to 7

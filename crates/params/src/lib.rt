@@ -3,37 +3,19 @@
 #![tactic(auto)]
 
 ghost use Rattle.params.specs.Promises.{CostsPromise, CheckNumbersPromise, CheckFromPromise, CheckPromise, SegmentOfPromise, SegmentPromise, LanePromise, BlocksPromise, FromNumbersPromise};
-ghost use Rattle.std.specs.Prelude.{◌≡◌};
-ghost use Rattle.params.specs.Limits.{configured_of};
 
-use answer::Answer;
+use answer::Refusal;
 
-// A configured tag length: absent, or a number.
-#[derive(Clone, Copy)]
-pub enum Configured {
-    Absent,
-    Length(u32),
-}
-
-// The configured length that one number stands for.
-fn configured_of(n: u32) -> Configured
-    ensures { result ≡ configured_of n }
-{
-    if n == 0 {
-        Configured::Absent
-    } else {
-        Configured::Length(n)
-    }
-}
-
-#[derive(Clone, Copy)]
+#[derive(Clone, Copy, Debug, PartialEq, Eq)]
 pub struct Params {
+    // Algorithm and version are numbers: any is answered, by rows 1 and 2 (`CheckNumbersPromise`).
     pub algorithm: u32,
     pub version: u32,
     pub memory: u32,
     pub passes: u32,
     pub lanes: u32,
-    pub configured: Configured,
+    // The configured tag length.
+    pub configured: Option<u32>,
 }
 
 // What a key is derived from, beside the parameters.
@@ -86,77 +68,68 @@ impl Params {
     ) -> Params
         ensures { FromNumbersPromise algorithm version memory passes lanes configured result }
     {
-        let configured = configured_of(configured);
         Params {
             algorithm,
             version,
             memory,
             passes,
             lanes,
-            configured,
+            configured: if configured == 0 {
+                None
+            } else {
+                Some(configured)
+            },
         }
     }
 
     // The first of document 01's rows 3 to 7 that holds.
-    pub fn check_costs(lanes: u32, memory: u32, passes: u32) -> Answer
+    pub fn check_costs(lanes: u32, memory: u32, passes: u32) -> Result<(), Refusal>
         ensures { CostsPromise lanes memory passes result }
     {
         if lanes == 0 {
-            return Answer::ThreadsTooFew;
+            return Err(Refusal::ThreadsTooFew);
         }
         if Params::MAX_LANES < lanes {
-            return Answer::ThreadsTooMany;
+            return Err(Refusal::ThreadsTooMany);
         }
         if memory < Params::MIN_LANE * lanes {
-            return Answer::MemoryTooSmall;
+            return Err(Refusal::MemoryTooSmall);
         }
         if Params::MAX_MEMORY < memory {
-            return Answer::MemoryTooMuch;
+            return Err(Refusal::MemoryTooMuch);
         }
         if passes == 0 {
-            return Answer::TimeTooSmall;
+            return Err(Refusal::TimeTooSmall);
         }
-        Answer::Accepted
+        Ok(())
     }
 
     // The first of document 01's rows 1 to 7 that holds, where no version before the oldest is taken.
-    pub fn check_numbers(self, oldest: u32) -> Answer
+    pub fn check_numbers(self, oldest: u32) -> Result<(), Refusal>
         ensures { CheckNumbersPromise self oldest result }
     {
-        let algorithm = self.algorithm;
-        if (algorithm != Params::D) & (algorithm != Params::I) & (algorithm != Params::ID) {
-            return Answer::AlgorithmInvalid;
+        if !matches!(self.algorithm, Params::D | Params::I | Params::ID) {
+            return Err(Refusal::AlgorithmInvalid);
         }
-        let version = self.version;
-        if ((version != Params::V0X10) & (version != Params::V0X13)) | (version < oldest) {
-            return Answer::VersionInvalid;
+        if !matches!(self.version, Params::V0X10 | Params::V0X13) || self.version < oldest {
+            return Err(Refusal::VersionInvalid);
         }
         Params::check_costs(self.lanes, self.memory, self.passes)
     }
 
     // The first of rows 1 to 8 that holds, where no version before the oldest is taken.
-    pub fn check_from(self, oldest: u32) -> Answer
+    pub fn check_from(self, oldest: u32) -> Result<(), Refusal>
         ensures { CheckFromPromise self oldest result }
     {
-        let numbers = self.check_numbers(oldest);
-        if numbers.number() != 0 {
-            return numbers;
-        }
-        let configured = self.configured;
-        match configured {
-            Configured::Absent => Answer::Accepted,
-            Configured::Length(n) => {
-                if n < Params::MIN_TAG {
-                    Answer::TagTooShort
-                } else {
-                    Answer::Accepted
-                }
-            }
+        self.check_numbers(oldest)?;
+        match self.configured {
+            Some(n) if n < Params::MIN_TAG => Err(Refusal::TagTooShort),
+            _ => Ok(()),
         }
     }
 
     // The first of document 01's rows 1 to 8 that holds: version 16 is taken.
-    pub fn check(self) -> Answer
+    pub fn check(self) -> Result<(), Refusal>
         ensures { CheckPromise self result }
     {
         self.check_from(Params::V0X10)
