@@ -8,13 +8,18 @@ use Prim.Native.Nat.{ℕ, ◌≤◌, ◌<◌}
 use native.Mathlib.Omega.{arith}
 use lib.Dec.{ltb, leb, eqb}
 use borrow.Author.Tests.{ltb-true, leb-true, lt-ltb, le-leb, ne_eqb}
-use Rattle.answer.specs.Answers.{number, first}
-use Rattle.answer.specs.declared.Answer.TheVariants.{Inconsistent}
-use Rattle.answer.proofs.Rows.{first_refused, first_passed}
+use Rattle.std.specs.Prelude.{Result, Ok, Err}
+use Rattle.std.specs.Result.{result_unwrap_or}
+use Rattle.answer.specs.Answers.{refusal, number, first}
+use Rattle.answer.specs.declared.Refusal.{Refusal}
+use Rattle.answer.specs.declared.Refusal.TheVariants.{Inconsistent}
+use Rattle.answer.proofs.Answered.{part_refused}
+use Rattle.answer.proofs.Numbers.{refused}
+use Rattle.answer.proofs.Rows.{first_passed}
 use Rattle.params.specs.Limits.{slices, cost_rows, segment_length, segment}
 use Rattle.params.specs.declared.Params.{Params}
 use Rattle.params.proofs.Within.{Within, within_accepted}
-use Rattle.position.specs.Position.{first_block, index, reference_lane, reference_column, reference, fills, position_invalid, position_rows}
+use Rattle.position.specs.Position.{first_block, index, reference_lane, reference_column, reference, fills, position_invalid, position_rows, no_reference}
 use Rattle.position.specs.Promises.{IndexPromise, ReferencePromise}
 use Rattle.position.specs.declared.Reference.{Reference}
 
@@ -61,47 +66,43 @@ past_costs p m t r sl l k h = first_passed (cost_rows p m t) (position_invalid p
 pub position_accepted : {p m t r sl l k : ℕ} → Within p m t → Filled p (segment_length m p) t r sl l k → first (position_rows p m t r sl l k) ≡ 0
 position_accepted {p} {m} {t} {r} {sl} {l} {k} w f = past_costs p m t r sl l k (within_accepted w) ∙ rw (fills_true f)
 
-module _ {p m t r sl l k x : ℕ} {o : Reference} where
-  refuses : number o.answer ≡ first (position_rows p m t r sl l k) → first (position_rows p m t r sl l k) ≢ 0
-      → o.lane.0 ≡ 0 → o.block.0 ≡ 0 → ReferencePromise p m t r sl l k x o
-  refuses a n b c =
-      let z : eqb (first (position_rows p m t r sl l k)) 0 ≡ false = ne_eqb (first (position_rows p m t r sl l k)) 0 n in
-      record { answer = a; lane = rw z b; block = rw z c }
+module _ {p m t r sl l k x : ℕ} where
+  refuses : {e : Refusal} → refusal e ≡ first (position_rows p m t r sl l k) → ReferencePromise p m t r sl l k x (Err e)
+  refuses {e} a =
+      let z : eqb (first (position_rows p m t r sl l k)) 0 ≡ false = ne_eqb (first (position_rows p m t r sl l k)) 0 (λ n. refused e (a ∙ n)) in
+      record { answer = a; lane = rw z; block = rw z }
 
   -- a refusal of the costs is the answer
-  pub refuses_costs : number o.answer ≡ first (cost_rows p m t) → first (cost_rows p m t) ≢ 0
-      → o.lane.0 ≡ 0 → o.block.0 ≡ 0 → ReferencePromise p m t r sl l k x o
-  refuses_costs a n b c =
-      let e = first_refused (cost_rows p m t) (position_invalid p (segment_length m p) t r sl l k ∷ []) n in
-      refuses (a ∙ sym e) (λ z. n (sym e ∙ z)) b c
+  pub refuses_costs : {e : Refusal} → refusal e ≡ first (cost_rows p m t) → ReferencePromise p m t r sl l k x (Err e)
+  refuses_costs {e} a = refuses (part_refused e (cost_rows p m t) (position_invalid p (segment_length m p) t r sl l k ∷ []) a)
 
   -- else a block that no step fills is refused
-  pub refuses_position : first (cost_rows p m t) ≡ 0 → fills p (segment_length m p) t r sl l k ≡ false → o.answer ≡ Inconsistent
-      → o.lane.0 ≡ 0 → o.block.0 ≡ 0 → ReferencePromise p m t r sl l k x o
-  refuses_position h none a b c =
-      let e : first (position_rows p m t r sl l k) ≡ number Inconsistent = past_costs p m t r sl l k h ∙ rw none in
-      refuses (ap number a ∙ sym e) (λ z. omega (arith, e)) b c
+  pub refuses_position : first (cost_rows p m t) ≡ 0 → fills p (segment_length m p) t r sl l k ≡ false
+      → ReferencePromise p m t r sl l k x (Err Inconsistent)
+  refuses_position h none = refuses (sym (past_costs p m t r sl l k h ∙ rw none))
 
-  pub accepts : Within p m t → Filled p (segment_length m p) t r sl l k → number o.answer ≡ 0
+  pub accepts : {o : Reference} → Within p m t → Filled p (segment_length m p) t r sl l k
       → o.lane.0 ≡ reference_lane p r sl l x → o.block.0 ≡ reference_column p (segment_length m p) r sl l k x
-      → ReferencePromise p m t r sl l k x o
-  accepts w f a b c =
+      → ReferencePromise p m t r sl l k x (Ok o)
+  accepts w f b c =
       let z = position_accepted w f in
-      record { answer = a ∙ sym z; lane = rw z b; block = rw z c }
+      record { answer = sym z; lane = rw z b; block = rw z c }
 
   -- an accepted call's answer, lane and block
-  pub reference_accepted : Within p m t → Filled p (segment_length m p) t r sl l k → ReferencePromise p m t r sl l k x o
-      → (number o.answer ≡ 0) × (o.lane.0 ≡ reference_lane p r sl l x) × (o.block.0 ≡ reference_column p (segment_length m p) r sl l k x)
+  pub reference_accepted : {o : Result Reference Refusal} → Within p m t → Filled p (segment_length m p) t r sl l k → ReferencePromise p m t r sl l k x o
+      → (number o ≡ 0) × ((result_unwrap_or o no_reference).lane.0 ≡ reference_lane p r sl l x)
+      × ((result_unwrap_or o no_reference).block.0 ≡ reference_column p (segment_length m p) r sl l k x)
   reference_accepted w f q =
       let z = position_accepted w f in
       (q.answer ∙ z, q.lane ∙ rw z, q.block ∙ rw z)
 
 -- and the number in memory of that block
-pub reference_index_lem : {P : Params} {r sl l k x n : ℕ} {o : Reference}
+pub reference_index_lem : {P : Params} {r sl l k x n : ℕ} {o : Result Reference Refusal}
     → first (position_rows P.lanes P.memory P.passes r sl l k) ≡ 0
-    → ReferencePromise P.lanes P.memory P.passes r sl l k x o → IndexPromise P o.lane o.block n
+    → ReferencePromise P.lanes P.memory P.passes r sl l k x o
+    → IndexPromise P (result_unwrap_or o no_reference).lane (result_unwrap_or o no_reference).block n
     → n ≡ reference P.lanes (segment P) r sl l k x
 reference_index_lem {P} {r} {sl} {l} {k} {x} {n} {o} z q i =
-    let a : o.lane.0 ≡ reference_lane P.lanes r sl l x = q.lane ∙ rw z in
-    let c : o.block.0 ≡ reference_column P.lanes (segment P) r sl l k x = q.block ∙ rw z in
+    let a : (result_unwrap_or o no_reference).lane.0 ≡ reference_lane P.lanes r sl l x = q.lane ∙ rw z in
+    let c : (result_unwrap_or o no_reference).block.0 ≡ reference_column P.lanes (segment P) r sl l k x = q.block ∙ rw z in
     i.result ∙ ap₂ (λ (lane column : ℕ). index (segment P) lane column) a c

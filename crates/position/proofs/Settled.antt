@@ -1,10 +1,11 @@
 -- Two results that meet a promise are equal. Assumes nothing.
 use Prim.Native.Nat.{ℕ}
 use mathlib.Core.Path.{◌≡◌, sym, ap, ◌∙◌}
-use Rattle.answer.specs.declared.Answer.{Answer}
-use Rattle.answer.proofs.Numbers.{injective}
+use Rattle.std.specs.Prelude.{Result, Ok, Err}
+use Rattle.answer.specs.declared.Refusal.{Refusal}
+use Rattle.answer.proofs.Numbers.{refused, refusals_differ}
 use Rattle.params.specs.declared.Params.{Params}
-use Rattle.position.specs.Promises.{FirstBlockPromise, InMemoryPromise, ColumnPromise, PreviousColumnPromise, IndexPromise, ReferencePromise}
+use Rattle.position.specs.Promises.{FirstBlockPromise, InMemoryPromise, ColumnPromise, PreviousColumnPromise, IndexPromise, NoReferencePromise, ReferencePromise}
 use Rattle.position.specs.declared.BlockNumber.{BlockNumber}
 use Rattle.position.specs.declared.LaneNumber.{LaneNumber}
 use Rattle.position.specs.declared.Reference.{Reference}
@@ -31,14 +32,18 @@ pub index_settled : {P : Params} {l : LaneNumber} {c : BlockNumber} {n n' : ℕ}
     → IndexPromise P l c n → IndexPromise P l c n' → n ≡ n'
 index_settled p p' = p.result ∙ sym p'.result
 
--- an answer, a lane and a column make a reference
-same : {o o' : Reference} → o.answer ≡ o'.answer → o.lane.0 ≡ o'.lane.0 → o.block.0 ≡ o'.block.0 → o ≡ o'
-same {o} {o'} a b c =
-    ap (λ (z : Answer). record { answer = z; lane = o.lane; block = o.block }) a
-    ∙ ap (λ (n : ℕ). record { answer = o'.answer; lane = record { 0 = n }; block = o.block }) b
-    ∙ ap (λ (n : ℕ). record { answer = o'.answer; lane = o'.lane; block = record { 0 = n } }) c
+pub no_reference_settled : {o o' : Reference} → NoReferencePromise o → NoReferencePromise o' → o ≡ o'
+no_reference_settled p p' = p.result ∙ sym p'.result
 
-pub reference_settled : {p m t r sl l k x : ℕ} {o o' : Reference}
+-- a lane and a column make a reference
+same : {o o' : Reference} → o.lane.0 ≡ o'.lane.0 → o.block.0 ≡ o'.block.0 → o ≡ o'
+same {o} {o'} b c =
+    ap (λ (n : ℕ). record { lane = record { 0 = n }; block = o.block }) b
+    ∙ ap (λ (n : ℕ). record { lane = o'.lane; block = record { 0 = n } }) c
+
+pub reference_settled : {p m t r sl l k x : ℕ} {o o' : Result Reference Refusal}
     → ReferencePromise p m t r sl l k x o → ReferencePromise p m t r sl l k x o' → o ≡ o'
-reference_settled q q' =
-    same (injective (q.answer ∙ sym q'.answer)) (q.lane ∙ sym q'.lane) (q.block ∙ sym q'.block)
+reference_settled {o = Ok a} {o' = Ok b} q q' = ap Ok (same (q.lane ∙ sym q'.lane) (q.block ∙ sym q'.block))
+reference_settled {o = Ok a} {o' = Err s} q q' = absurd (refused s (q'.answer ∙ sym q.answer))
+reference_settled {o = Err r} {o' = Ok b} q q' = absurd (refused r (q.answer ∙ sym q'.answer))
+reference_settled {o = Err r} {o' = Err s} q q' = ap Err (refusals_differ (q.answer ∙ sym q'.answer))

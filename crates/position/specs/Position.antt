@@ -3,6 +3,7 @@
 use Rattle.std.specs.Prelude.{ℕ, ◌+◌, ◌-◌, ◌*◌, ◌/◌, ◌%◌, Bool, cond, not, ◌&&◌, List, [], ◌∷◌, ◌++◌, leb, ltb, eqb}
 use Rattle.answer.specs.Answers.{Row, ◌when◌}
 use Rattle.params.specs.Limits.{slices, cost_rows, segment_length}
+use Rattle.position.specs.declared.Reference.{Reference}
 use Rattle.word.specs.Word.{half, low_half, high_half}
 
 -- "The job": the first block of a segment that a step fills, 2 in pass 0, slice 0, else 0
@@ -69,3 +70,7 @@ position_invalid p s t r sl l k = 17 when not (fills p s t r sl l k)
 -- the reference position gives 3 to 7 for bad parameters in that order, then 17
 abbrev pub position_rows : ℕ → ℕ → ℕ → ℕ → ℕ → ℕ → ℕ → List Row
 position_rows p m t r sl l k = cost_rows p m t ++ (position_invalid p (segment_length m p) t r sl l k ∷ [])
+
+-- refused, zeros
+abbrev pub no_reference : Reference
+no_reference = record { lane = record { 0 = 0 }; block = record { 0 = 0 } }

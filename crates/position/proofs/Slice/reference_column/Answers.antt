@@ -1,16 +1,16 @@
--- `position::reference_column` meets its contract: start and place are at most a lane each. Assumes nothing.
+-- `position::Slice::reference_column` meets its contract: start and place are at most a lane each. Assumes nothing.
 use Prim.Native.Nat.{◌+◌, ◌*◌}
 use native.Mathlib.Nat.{mod-lt}
 use native.Mathlib.Omega.{arith}
 use Rattle.params.specs.Limits.{slices}
 use Rattle.position.proofs.Lane.{area_le, place-le, start_le}
-use Rattle.position.proofs.reference_column.Goals as goal
+use Rattle.position.proofs.Slice.reference_column.Goals as goal
 
 pub place-requires : goal.place-requires
 place-requires c =
     let a = c.args in (
       omega (arith, c.area.ensures),
-      omega (arith, c.area.ensures, area_le a.segment a.pass a.slice a.block a.own (omega arith) (omega arith)),
+      omega (arith, c.area.ensures, area_le a.self.length a.self.pass a.self.slice a.block a.own (omega arith) (omega arith)),
     )
 
 pub overflow_add-at : goal.overflow_add-at
@@ -21,9 +21,9 @@ overflow_add-at c =
       c.place.ensures,
       place-le c.area.result a.word,
       c.area.ensures,
-      area_le a.segment a.pass a.slice a.block a.own (omega arith) (omega arith),
+      area_le a.self.length a.self.pass a.self.slice a.block a.own (omega arith) (omega arith),
       c.area_start.ensures,
-      start_le a.segment a.pass a.slice (omega arith),
+      start_le a.self.length a.self.pass a.self.slice (omega arith),
     )
 
 pub overflow_cast-result-2 : goal.overflow_cast-result-2
@@ -31,7 +31,7 @@ overflow_cast-result-2 c =
     let a = c.args in
     omega (
       arith,
-      mod-lt (c.area_start.result + c.place.result) {m = slices * a.segment} (omega arith),
+      mod-lt (c.area_start.result + c.place.result) {m = slices * a.self.length} (omega arith),
     )
 
 pub returns : goal.returns
