@@ -5,7 +5,10 @@ use mathlib.Core.List.{List, ◌++◌}
 use mathlib.Core.Path.{◌≡◌, refl, sym, ap, ◌∙◌}
 use lib.Dec.{T, eqb}
 use borrow.Author.Tests.{ltb-false, eqb-true, eqb-false, eq-eqb, ne_eqb}
-use Rattle.answer.specs.Answers.{Row, refusal, first, if_accepted, length_rows}
+use Rattle.std.specs.Prelude.{Result}
+use Rattle.std.specs.Result.{IsErrAnd}
+use Rattle.std.proofs.lemmas.Result.{err_from_is_err_and}
+use Rattle.answer.specs.Answers.{Row, refusal, number, first, if_accepted, length_rows}
 use Rattle.answer.specs.declared.Refusal.{Refusal}
 use Rattle.answer.proofs.Numbers.{refused}
 use Rattle.answer.proofs.Rows.{refusals, passed, first_refused, first_passed}
@@ -24,6 +27,13 @@ joined xs ys t p q e = e ∙ rw (p, q) (first_parts xs ys t)
 -- a refusal of the first part is the whole list's
 pub part_refused : (e : Refusal) (xs ys : List Row) → refusal e ≡ first xs → refusal e ≡ first (xs ++ ys)
 part_refused e xs ys p = p ∙ sym (first_refused xs ys (λ z. refused e (p ∙ z)))
+
+-- what the exit of a `?` returns is the refusal that it met
+pub handed_on : {T : Type 0} {n : ℕ} (e : Refusal) (r : Result T Refusal) → IsErrAnd r (λ y. y ≡ e) → refusal e ≡ n → number r ≡ n
+handed_on e r h q = let p = err_from_is_err_and r h in rw (p.1, p.2) q
+
+pub not_accepted : {T : Type 0} (e : Refusal) (r : Result T Refusal) → IsErrAnd r (λ y. y ≡ e) → number r ≡ 0 → ⊥
+not_accepted e r h z = let p = err_from_is_err_and r h in refused p.0 (ap number (sym p.1) ∙ z)
 
 -- where the first part accepts, the answer is the rest's
 pub part_passed : (xs ys : List Row) {n : ℕ} → T (refusals xs) → 0 ≡ first xs → n ≡ first ys → n ≡ first (xs ++ ys)

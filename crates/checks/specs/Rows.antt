@@ -1,9 +1,7 @@
 -- Document 01, "Answers": the rows of the calls, over a rule. Lengths are numbers of bytes, or of words for the memory.
-use Rattle.std.specs.Prelude.{ℕ, ◌*◌, Bool, List, [], ◌∷◌, ◌++◌, ltb}
+use Rattle.std.specs.Prelude.{ℕ, ◌*◌, Bool, List, [], ◌∷◌, ◌++◌, ltb, Option, None, Some}
 use Rattle.answer.specs.Answers.{Row, ◌when◌, length_rows}
 use Rattle.params.specs.Limits.{v10, rows_from, blocks, min_tag}
-use Rattle.params.specs.declared.Configured.{Configured}
-use Rattle.params.specs.declared.Configured.TheVariants.{Absent, Length}
 use Rattle.params.specs.declared.Params.{Params}
 use Rattle.word.specs.Word.{max_length}
 use Rattle.checks.specs.declared.Rule.{Rule}
@@ -16,13 +14,13 @@ abbrev pub min_salt : ℕ
 min_salt = 8
 
 -- the least and the most bytes of a tag: the configured length, or 4 to 2^32 - 1 with none
-abbrev pub least_tag : Configured → ℕ
-least_tag Absent = min_tag
-least_tag (Length n) = n
+abbrev pub least_tag : Option ℕ → ℕ
+least_tag None = min_tag
+least_tag (Some n) = n
 
-abbrev pub most_tag : Configured → ℕ
-most_tag Absent = max_length
-most_tag (Length n) = n
+abbrev pub most_tag : Option ℕ → ℕ
+most_tag None = max_length
+most_tag (Some n) = n
 
 -- 9: associated data over 32 bytes
 abbrev pub ad_too_long : ℕ → Row
@@ -52,7 +50,7 @@ abbrev pub memory_too_little : ℕ → Params → ℕ → Row
 memory_too_little unit P lent = 16 when too_little unit P lent
 
 -- 11 and 12
-abbrev pub output_rows : Configured → ℕ → List Row
+abbrev pub output_rows : Option ℕ → ℕ → List Row
 output_rows configured out = length_rows (least_tag configured) (most_tag configured) out
 
 -- 9 and 10

@@ -3,14 +3,15 @@
 
 #![tactic(auto)]
 
-ghost use Rattle.std.specs.Prelude.{◌≡◌};
-ghost use Rattle.answer.specs.Answers.{number, first, if_accepted};
+ghost use Rattle.std.specs.Prelude.{◌≡◌, ◌++◌, length};
+ghost use Rattle.answer.specs.Answers.{number, first};
+ghost use Rattle.params.specs.Limits.{rows_from};
 ghost use Rattle.checks.specs.Rows.{extra_rows, input_rows};
 ghost use Rattle.checks.specs.Promises.{PlainPromise, CheckOutputPromise, TooLittlePromise, CheckStartPromise, CheckFillPromise};
 
-use answer::{Answer, check_length};
+use answer::{Refusal, check_length};
 use block::Block;
-use params::{Configured, Params};
+use params::{Inputs, Params};
 use word::MAX_LENGTH;
 
 // The unit where words are lent.
@@ -37,33 +38,34 @@ impl Rule {
     }
 }
 
-// The first of two answers, unless it accepts.
-fn first_of(a: Answer, b: Answer) -> Answer
-    ensures { number result ≡ if_accepted (number a) (number b) (number a) }
-{
-    if a.number() != 0 { a } else { b }
-}
-
 // Rows 9 and 10.
-fn check_extra(secret: usize, ad: usize) -> Answer
+fn check_extra(secret: usize, ad: usize) -> Result<(), Refusal>
     ensures { number result ≡ first (extra_rows secret ad) }
 {
     if Params::MAX_DATA < ad {
-        return Answer::AdTooLong;
+        return Err(Refusal::AdTooLong);
     }
     if MAX_LENGTH < secret {
-        return Answer::SecretTooLong;
+        return Err(Refusal::SecretTooLong);
     }
-    Answer::Accepted
+    Ok(())
+}
+
+// Rows 1 to 10.
+fn check_numbers(rule: Rule, params: Params, inputs: Inputs) -> Result<(), Refusal>
+    ensures { number result ≡ first (rows_from rule.oldest params ++ extra_rows (length inputs.entry.secret.now) (length inputs.entry.ad.now)) }
+{
+    params.check_from(rule.oldest)?;
+    check_extra(inputs.secret.len(), inputs.ad.len())
 }
 
 // Rows 11 and 12, by the configured length.
-pub fn check_output(configured: Configured, n: usize) -> Answer
+pub fn check_output(configured: Option<u32>, n: usize) -> Result<(), Refusal>
     ensures { CheckOutputPromise configured n result }
 {
     match configured {
-        Configured::Absent => check_length(Params::MIN_TAG as usize, MAX_LENGTH, n),
-        Configured::Length(k) => check_length(k as usize, k as usize, n),
+        None => check_length(Params::MIN_TAG as usize, MAX_LENGTH, n),
+        Some(k) => check_length(k as usize, k as usize, n),
     }
 }
 
@@ -79,25 +81,24 @@ fn check_inputs(
     least: usize,
     unit: u32,
     params: Params,
-    password: usize,
-    salt: usize,
+    inputs: Inputs,
     lent: usize,
-) -> Answer
-    ensures { number result ≡ first (input_rows least unit params password salt lent) }
+) -> Result<(), Refusal>
+    ensures { number result ≡ first (input_rows least unit params (length inputs.entry.password.now) (length inputs.entry.salt.now) lent) }
 {
-    if MAX_LENGTH < password {
-        return Answer::PwdTooLong;
+    if MAX_LENGTH < inputs.password.len() {
+        return Err(Refusal::PwdTooLong);
     }
-    if salt < least {
-        return Answer::SaltTooShort;
+    if inputs.salt.len() < least {
+        return Err(Refusal::SaltTooShort);
     }
-    if MAX_LENGTH < salt {
-        return Answer::SaltTooLong;
+    if MAX_LENGTH < inputs.salt.len() {
+        return Err(Refusal::SaltTooLong);
     }
     if too_little(unit, params, lent) {
-        return Answer::MemoryTooLittle;
+        return Err(Refusal::MemoryTooLittle);
     }
-    Answer::Accepted
+    Ok(())
 }
 
 // Rows 1 to 16.
@@ -106,21 +107,14 @@ pub fn check_start(
     unit: u32,
     params: Params,
     tag: usize,
-    password: usize,
-    salt: usize,
-    secret: usize,
-    ad: usize,
+    inputs: Inputs,
     lent: usize,
-) -> Answer
-    ensures { CheckStartPromise rule unit params tag password salt secret ad lent result }
+) -> Result<(), Refusal>
+    ensures { CheckStartPromise rule unit params tag (length inputs.entry.password.now) (length inputs.entry.salt.now) (length inputs.entry.secret.now) (length inputs.entry.ad.now) lent result }
 {
-    let configured = params.configured;
-    let extra = first_of(params.check_from(rule.oldest), check_extra(secret, ad));
-    let output = first_of(extra, check_output(configured, tag));
-    first_of(
-        output,
-        check_inputs(rule.salt, unit, params, password, salt, lent),
-    )
+    check_numbers(rule, params, inputs)?;
+    check_output(params.configured, tag)?;
+    check_inputs(rule.salt, unit, params, inputs, lent)
 }
 
 // Rows 1 to 10 and 13 to 16.
@@ -128,17 +122,11 @@ pub fn check_fill(
     rule: Rule,
     unit: u32,
     params: Params,
-    password: usize,
-    salt: usize,
-    secret: usize,
-    ad: usize,
+    inputs: Inputs,
     lent: usize,
-) -> Answer
-    ensures { CheckFillPromise rule unit params password salt secret ad lent result }
+) -> Result<(), Refusal>
+    ensures { CheckFillPromise rule unit params (length inputs.entry.password.now) (length inputs.entry.salt.now) (length inputs.entry.secret.now) (length inputs.entry.ad.now) lent result }
 {
-    let earlier = first_of(params.check_from(rule.oldest), check_extra(secret, ad));
-    first_of(
-        earlier,
-        check_inputs(rule.salt, unit, params, password, salt, lent),
-    )
+    check_numbers(rule, params, inputs)?;
+    check_inputs(rule.salt, unit, params, inputs, lent)
 }

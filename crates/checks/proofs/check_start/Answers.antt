@@ -1,24 +1,47 @@
--- `checks::check_start` meets its contract: rows 1 to 8, 9 and 10, 11 and 12, 13 to 16, joined part by part. Assumes nothing.
-use mathlib.Core.List.{◌++◌}
+-- `checks::check_start` meets its contract: rows 11 and 12 come after rows 1 to 10, and rows 13 to 16 after them. Assumes nothing.
+use Rattle.std.proofs.Common.{length, ◌++◌, refl}
+use Rattle.answer.proofs.Answered.{handed_on, not_accepted, part_refused, part_passed}
 use Rattle.params.specs.Limits.{rows_from}
 use Rattle.checks.specs.Rows.{extra_rows, output_rows, input_rows}
-use Rattle.answer.proofs.Answered.{joined}
 use Rattle.checks.proofs.check_start.Goals as goal
+
+pub returns-in_err-check_numbers : goal.returns-in_err-check_numbers
+returns-in_err-check_numbers c =
+    let a = c.args in
+    let i = a.inputs in
+    let numbers = rows_from a.rule.oldest a.params ++ extra_rows (length i.secret.now) (length i.ad.now) in
+    let output = output_rows a.params.configured a.tag in
+    let input = input_rows a.rule.salt a.unit a.params (length i.password.now) (length i.salt.now) a.lent in
+    record {
+      answer = handed_on _ _ c.from_residual.ensures.1 (part_refused _ numbers (output ++ input) c.in_err-check_numbers.ensures);
+      fits = λ z. absurd (not_accepted _ _ c.from_residual.ensures.1 z);
+    }
+
+pub returns-in_err-check_output : goal.returns-in_err-check_output
+returns-in_err-check_output c =
+    let a = c.args in
+    let i = a.inputs in
+    let numbers = rows_from a.rule.oldest a.params ++ extra_rows (length i.secret.now) (length i.ad.now) in
+    let output = output_rows a.params.configured a.tag in
+    let input = input_rows a.rule.salt a.unit a.params (length i.password.now) (length i.salt.now) a.lent in
+    let residual = c.from_residual-in_err-check_output.ensures.1 in
+    record {
+      answer =
+          handed_on _ _ residual
+          (part_passed numbers (output ++ input) tt c.in_ok-check_numbers.ensures (part_refused _ output input c.in_err-check_output.ensures.answer));
+      fits = λ z. absurd (not_accepted _ _ residual z);
+    }
 
 pub returns : goal.returns
 returns c =
     let a = c.args in
-    let P = a.params in
-    let numbers = rows_from a.rule.oldest P in
-    let extra = extra_rows a.secret a.ad in
-    let output = output_rows P.configured a.tag in
+    let i = a.inputs in
+    let numbers = rows_from a.rule.oldest a.params ++ extra_rows (length i.secret.now) (length i.ad.now) in
+    let output = output_rows a.params.configured a.tag in
+    let input = input_rows a.rule.salt a.unit a.params (length i.password.now) (length i.salt.now) a.lent in
     record {
       answer =
-          joined (numbers ++ extra ++ output) (input_rows a.rule.salt a.unit P a.password a.salt a.lent) tt
-          (joined (numbers ++ extra) output tt
-          (joined numbers extra tt c.check_from.ensures.answer c.check_extra.ensures c.first_of-extra.ensures)
-          c.check_output.ensures.answer
-          c.first_of-output.ensures)
-          c.check_inputs.ensures
-          c.first_of.ensures;
+          part_passed numbers (output ++ input) tt c.in_ok-check_numbers.ensures
+          (part_passed output input tt c.in_ok-check_output.ensures.answer c.check_inputs.ensures);
+      fits = λ _. c.in_ok-check_output.ensures.fits refl;
     }
