@@ -1,9 +1,8 @@
 -- Document 01, "The job": when a job is consistent, how it moves, and the rows of step and finish.
-use Rattle.std.specs.Prelude.{ℕ, zero, suc, ◌+◌, ◌-◌, Bool, true, false, cond, not, ◌&&◌, ◌||◌, List, [], ◌∷◌, ◌++◌, leb, ltb, eqb, length, get_or, set, replicate}
+use Rattle.std.specs.Prelude.{ℕ, zero, suc, ◌+◌, ◌-◌, Bool, true, false, cond, not, ◌&&◌, ◌||◌, List, [], ◌∷◌, ◌++◌, leb, ltb, eqb, length, get_or, set, replicate, None}
 use Rattle.answer.specs.Answers.{Row, ◌when◌, first, length_rows}
 use Rattle.block.specs.Block.{block_words}
 use Rattle.params.specs.Limits.{rows, slices, max_lanes, segment}
-use Rattle.params.specs.declared.Configured.TheVariants.{Absent}
 use Rattle.params.specs.declared.Params.{Params}
 use Rattle.position.specs.Position.{first_block}
 use Rattle.checks.specs.Rows.{output_rows, memory_too_little}
@@ -96,7 +95,7 @@ start_job P tag =
 unfoldable pub zero_job : Job
 zero_job =
     record {
-      params = record { algorithm = 0; version = 0; memory = 0; passes = 0; lanes = 0; configured = Absent };
+      params = record { algorithm = 0; version = 0; memory = 0; passes = 0; lanes = 0; configured = None };
       tag = 0;
       pass = 0;
       slice = 0;

@@ -2,14 +2,15 @@
 
 #![tactic(auto)]
 
-ghost use Rattle.std.specs.Prelude.{leb, ltb, get_or, replicate, ◌&&◌, ◌||◌, ◌++◌, ◌≡◌, ◌-◌, ◌<◌, ◌≤◌};
+ghost use Rattle.std.specs.Prelude.{eqb, leb, ltb, replicate, ◌&&◌, ◌++◌, ◌≡◌, ◌-◌, ◌<◌, ◌≤◌};
+ghost use Rattle.std.specs.List.{list_all, list_any};
 ghost use Rattle.params.specs.Limits.{max_lanes, slices, segment};
 ghost use Rattle.job.specs.Jobs as spec;
 ghost use Rattle.job.specs.Promises.{ZerosPromise, JobStartPromise, ConsistentPromise, PositionPromise, CheckStepPromise, CheckFinishPromise, AfterPromise};
 
-use answer::{Answer, check_length};
+use answer::{Refusal, check_length};
 use checks::{WORDS, check_output, too_little};
-use params::{Configured, Params};
+use params::Params;
 use position::{LaneNumber, first_block};
 
 #[derive(Clone, Copy)]
@@ -23,39 +24,25 @@ pub struct Job {
     pub positions: [u32; Job::LANES],
 }
 
-#[derive(Clone, Copy)]
-pub struct Stepped {
-    pub answer: Answer,
-    pub job: Job,
+// Whether each of some lanes stands at 0.
+fn all_at_zero(lanes: &[u32]) -> bool
+    ensures { result ≡ list_all (λ block. eqb block 0) lanes.now }
+{
+    lanes.iter().all(|block| *block == 0)
 }
 
-// Whether each lane from one to before another stands between two blocks.
-fn all_between(positions: [u32; Job::LANES], from: u32, to: u32, low: u32, high: u32) -> bool
-    requires { to ≤ max_lanes }
-    ensures { result ≡ spec.all to (λ l. ltb l from || leb low (get_or positions l 0) && leb (get_or positions l 0) high) }
+// Whether each of some lanes stands between two blocks.
+fn all_between(lanes: &[u32], low: u32, high: u32) -> bool
+    ensures { result ≡ list_all (λ block. leb low block && leb block high) lanes.now }
 {
-    let mut all = true;
-    let mut lane = 0;
-    while lane < to {
-        let block = positions[lane as usize];
-        all = all & ((lane < from) | ((low <= block) & (block <= high)));
-        lane += 1;
-    }
-    all
+    lanes.iter().all(|block| low <= *block && *block <= high)
 }
 
-// Whether some lane before one stands under a block.
-fn some_under(positions: [u32; Job::LANES], to: u32, end: u32) -> bool
-    requires { to ≤ max_lanes }
-    ensures { result ≡ spec.any to (λ l. ltb (get_or positions l 0) end) }
+// Whether some of some lanes stands under a block.
+fn some_under(lanes: &[u32], end: u32) -> bool
+    ensures { result ≡ list_any (λ block. ltb block end) lanes.now }
 {
-    let mut some = false;
-    let mut lane = 0;
-    while lane < to {
-        some = some | (positions[lane as usize] < end);
-        lane += 1;
-    }
-    some
+    lanes.iter().any(|block| *block < end)
 }
 
 // The positions of a job that starts: a block for each of the first lanes, 0 for the others.
@@ -64,11 +51,7 @@ fn positions_at(lanes: u32, block: u32) -> [u32; Job::LANES]
     ensures { result ≡ replicate lanes block ++ replicate (max_lanes - lanes) 0 }
 {
     let mut positions = [0; Job::LANES];
-    let mut lane = 0;
-    while lane < lanes {
-        positions[lane as usize] = block;
-        lane += 1;
-    }
+    positions[..lanes as usize].fill(block);
     positions
 }
 
@@ -76,6 +59,7 @@ impl Job {
     pub const LANES: usize = Params::MAX_LANES as usize;
 
     // The job that a refused start hands back.
+    #[tactic(auto, unfolding(crate::specs::Jobs::zero_job))]
     pub fn zeros() -> Job
         ensures { ZerosPromise result }
     {
@@ -86,7 +70,7 @@ impl Job {
                 memory: 0,
                 passes: 0,
                 lanes: 0,
-                configured: Configured::Absent,
+                configured: None,
             },
             tag: 0,
             pass: 0,
@@ -99,26 +83,22 @@ impl Job {
     fn tag_allowed(self) -> bool
         ensures { result ≡ spec.tag_allowed self }
     {
-        let params = self.params;
-        let configured = params.configured;
-        check_output(configured, self.tag).number() == 0
+        check_output(self.params.configured, self.tag).is_ok()
     }
 
     // Whether lanes not in use stand at 0.
     fn laid_out(self) -> bool
+        requires { self.params.lanes ≤ max_lanes }
         ensures { result ≡ spec.laid_out self }
     {
-        let params = self.params;
-        let positions = self.positions;
-        all_between(positions, params.lanes, Params::MAX_LANES, 0, 0)
+        all_at_zero(&self.positions[self.params.lanes as usize..])
     }
 
     // Whether filling is complete.
     fn complete(self) -> bool
         ensures { result ≡ spec.complete self }
     {
-        let params = self.params;
-        self.pass == params.passes
+        self.pass == self.params.passes
     }
 
     // Whether it stands complete: at slice 0, each used lane at 0.
@@ -126,9 +106,9 @@ impl Job {
         requires { self.params.lanes ≤ max_lanes }
         ensures { result ≡ spec.stands_complete self }
     {
-        let params = self.params;
-        let positions = self.positions;
-        self.complete() & (self.slice == 0) & all_between(positions, 0, params.lanes, 0, 0)
+        self.complete()
+            && self.slice == 0
+            && all_at_zero(&self.positions[..self.params.lanes as usize])
     }
 
     // Whether some used lane is under the segment's end.
@@ -136,100 +116,101 @@ impl Job {
         requires { self.params.lanes ≤ max_lanes }
         ensures { result ≡ spec.unfinished self }
     {
-        let params = self.params;
-        let positions = self.positions;
-        some_under(positions, params.lanes, params.segment_length())
+        let end = self.params.segment_length();
+        some_under(&self.positions[..self.params.lanes as usize], end)
+    }
+
+    // Whether each used lane stands between two blocks.
+    fn used_between(self, low: u32, high: u32) -> bool
+        requires { self.params.lanes ≤ max_lanes }
+        ensures { result ≡ spec.all self.params.lanes (λ l. leb low (spec.position self l) && leb (spec.position self l) high) }
+    {
+        all_between(&self.positions[..self.params.lanes as usize], low, high)
     }
 
     // Whether it stands inside filling: each used lane between the segment's first block and its end, and one under that.
+    #[tactic(auto, using(std::proofs::lemmas::Bool::Decides::nat_tests))]
     fn stands_inside(self) -> bool
         requires { self.params.lanes ≤ max_lanes }
         ensures { result ≡ spec.stands_inside self }
     {
-        let params = self.params;
-        let positions = self.positions;
         let from = first_block(self.pass, self.slice);
-        (self.pass < params.passes)
-            & (self.slice < Params::SYNC_POINTS)
-            & all_between(positions, 0, params.lanes, from, params.segment_length())
-            & self.unfinished()
+        let end = self.params.segment_length();
+        self.pass < self.params.passes
+            && self.slice < Params::SYNC_POINTS
+            && self.used_between(from, end)
+            && self.unfinished()
     }
 
     // Whether its numbers pass rows 1 to 8, its tag length is one they allow, lanes not in use stand at 0, and it stands complete or inside.
+    #[tactic(auto, using(params::proofs::Within::params_within, std::proofs::lemmas::Bool::Decides::nat_tests), unfolding(crate::specs::Jobs::consistent))]
     pub fn consistent(self) -> bool
         ensures { ConsistentPromise self result }
     {
-        let params = self.params;
-        if params.check().number() != 0 {
-            return false;
-        }
-        self.tag_allowed() & self.laid_out() & (self.stands_complete() | self.stands_inside())
+        self.params.check().is_ok()
+            && self.tag_allowed()
+            && self.laid_out()
+            && (self.stands_complete() || self.stands_inside())
     }
 
     // The block of a lane's segment that comes next; 0 for a lane past the array.
     pub fn position(self, lane: LaneNumber) -> u32
         ensures { PositionPromise self lane.0 result }
     {
-        let positions = self.positions;
-        let at = lane.0 as usize;
-        if Job::LANES <= at {
-            return 0;
-        }
-        positions[at]
+        self.positions.get(lane.0 as usize).copied().unwrap_or(0)
     }
 
     // The first of rows 17, 16, 18, 19 and 20 that holds.
-    pub fn check_step(self, words: usize, lane: LaneNumber) -> Answer
+    pub fn check_step(self, words: usize, lane: LaneNumber) -> Result<(), Refusal>
         ensures { CheckStepPromise self words lane.0 result }
     {
-        let params = self.params;
         if !self.consistent() {
-            return Answer::Inconsistent;
+            return Err(Refusal::Inconsistent);
         }
-        if too_little(WORDS, params, words) {
-            return Answer::MemoryTooLittle;
+        if too_little(WORDS, self.params, words) {
+            return Err(Refusal::MemoryTooLittle);
         }
         if self.complete() {
-            return Answer::Complete;
+            return Err(Refusal::Complete);
         }
-        if params.lanes <= lane.0 {
-            return Answer::NoSuchLane;
+        if self.params.lanes <= lane.0 {
+            return Err(Refusal::NoSuchLane);
         }
-        if self.position(lane) == params.segment_length() {
-            return Answer::LaneFinished;
+        if self.position(lane) == self.params.segment_length() {
+            return Err(Refusal::LaneFinished);
         }
-        Answer::Accepted
+        Ok(())
     }
 
     // The first of rows 17, 16, 21, 11 and 12 that holds, for an output of n bytes.
-    pub fn check_finish(self, words: usize, n: usize) -> Answer
+    pub fn check_finish(self, words: usize, n: usize) -> Result<(), Refusal>
         ensures { CheckFinishPromise self words n result }
     {
-        let params = self.params;
         if !self.consistent() {
-            return Answer::Inconsistent;
+            return Err(Refusal::Inconsistent);
         }
-        if too_little(WORDS, params, words) {
-            return Answer::MemoryTooLittle;
+        if too_little(WORDS, self.params, words) {
+            return Err(Refusal::MemoryTooLittle);
         }
         if !self.complete() {
-            return Answer::NotComplete;
+            return Err(Refusal::NotComplete);
         }
         check_length(self.tag, self.tag, n)
     }
 
     // The job with a lane's position one further.
+    #[tactic(auto, using(params::proofs::Sizes::lane_le), unfolding(crate::specs::Jobs::moved))]
     fn moved(self, lane: LaneNumber) -> Job
         requires { (lane.0 < max_lanes) × (spec.position self lane.0 < segment self.params) }
         ensures { result ≡ spec.moved self lane.0 }
     {
         let mut job = self;
-        let at = lane.0 as usize;
-        job.positions[at] = job.positions[at] + 1;
+        job.positions[lane.0 as usize] += 1;
         job
     }
 
     // The job at the next slice or pass, all lanes at 0.
+    #[tactic(auto, using(std::proofs::lemmas::Bool::Decides::nat_tests), unfolding(crate::specs::Jobs::next_slice))]
     fn next_slice(self) -> Job
         requires { (self.slice < slices) × (self.pass < self.params.passes) }
         ensures { result ≡ spec.next_slice self }
@@ -246,6 +227,7 @@ impl Job {
     }
 
     // The job, moved at once to the next slice or pass if its last lane has reached the segment's end.
+    #[tactic(auto, using(std::proofs::lemmas::Bool::Decides::nat_tests), unfolding(crate::specs::Jobs::onward))]
     fn onward(self) -> Job
         requires { (self.params.lanes ≤ max_lanes) × (self.slice < slices) × (self.pass < self.params.passes) }
         ensures { result ≡ spec.onward self }
@@ -256,32 +238,27 @@ impl Job {
         self.next_slice()
     }
 
-    // The answer to a step of a lane, with so many words lent, and the job after it: the job itself, where the step is refused.
-    pub fn after(self, words: usize, lane: LaneNumber) -> Stepped
+    // The job after a step of a lane, with so many words lent.
+    pub fn after(self, words: usize, lane: LaneNumber) -> Result<Job, Refusal>
         ensures { AfterPromise self words lane.0 result }
     {
-        let answer = self.check_step(words, lane);
-        if answer.number() != 0 {
-            return Stepped { answer, job: self };
-        }
-        let job = self.moved(lane).onward();
-        Stepped { answer, job }
+        self.check_step(words, lane)?;
+        Ok(self.moved(lane).onward())
     }
 
     // The job before the first step; a job of zeros for parameters that rows 1 to 8 refuse.
     pub fn start(params: Params, tag: usize) -> Job
         ensures { JobStartPromise params tag result }
     {
-        if params.check().number() != 0 {
+        let Ok(()) = params.check() else {
             return Job::zeros();
-        }
-        let positions = positions_at(params.lanes, first_block(0, 0));
+        };
         let job = Job {
             params,
             tag,
             pass: 0,
             slice: 0,
-            positions,
+            positions: positions_at(params.lanes, first_block(0, 0)),
         };
         job.onward()
     }

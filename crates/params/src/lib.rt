@@ -6,7 +6,7 @@ ghost use Rattle.params.specs.Promises.{CostsPromise, CheckNumbersPromise, Check
 
 use answer::Refusal;
 
-#[derive(Clone, Copy, Debug, PartialEq, Eq)]
+#[derive(Clone, Copy)]
 pub struct Params {
     // Algorithm and version are numbers: any is answered, by rows 1 and 2 (`CheckNumbersPromise`).
     pub algorithm: u32,

@@ -12,11 +12,11 @@ use params::Params;
 use word::{HALF, high_half, low_half};
 
 // A lane's number.
-#[derive(Clone, Copy, Debug, PartialEq, Eq)]
+#[derive(Clone, Copy, PartialEq, Eq)]
 pub struct LaneNumber(pub u32);
 
 // A block's number within its lane: its column.
-#[derive(Clone, Copy, Debug, PartialEq, Eq)]
+#[derive(Clone, Copy)]
 pub struct BlockNumber(pub u32);
 
 impl BlockNumber {
@@ -29,7 +29,7 @@ impl BlockNumber {
 }
 
 // A segment of the memory: a lane's part of one slice of a pass.
-#[derive(Clone, Copy, Debug, PartialEq, Eq)]
+#[derive(Clone, Copy)]
 pub struct Segment {
     pub pass: u32,
     pub slice: u32,
@@ -37,7 +37,7 @@ pub struct Segment {
 }
 
 // A reference position: a lane, and the block within it.
-#[derive(Clone, Copy, Debug, PartialEq, Eq)]
+#[derive(Clone, Copy)]
 pub struct Reference {
     pub lane: LaneNumber,
     pub block: BlockNumber,

@@ -1,12 +1,18 @@
 -- `job::Job::laid_out` meets its contract: the array has a position for each lane. Assumes nothing.
-use mathlib.Core.Path.{◌≡◌, ◌∙◌}
-use lib.ListN.{length}
-use borrow.Author.Rules.{rules}
+use Rattle.std.proofs.Common.{◌≡◌, ◌≤◌, ℕ, Bool, ◌&&◌, ◌||◌, sym, ap, ◌∙◌, length, eqb, ltb, rules}
+use borrow.Author.Tests.{eq-eqb}
 use Rattle.params.specs.Limits.{max_lanes}
-use Rattle.job.proofs.Standing.{all_idle}
+use Rattle.job.specs.Jobs.{all, position}
+use Rattle.job.proofs.Lanes.{idle_all}
 use Rattle.job.proofs.Job.laid_out.Goals as goal
 
 pub returns : goal.returns
 returns c =
-    let places : length c.args.self.positions ≡ max_lanes = search rules in
-    c.all_between.ensures ∙ all_idle c.args.self places
+    let j = c.args.self in
+    let idle : ℕ → Bool = λ l. ltb l j.params.lanes || eqb (position j l) 0 in
+    let places : length j.positions ≡ max_lanes = search rules in
+    let there : j.params.lanes ≤ length j.positions = search rules in
+    c.all_at_zero.ensures
+    ∙ sym (idle_all (λ block. eqb block 0) j.positions j.params.lanes there)
+    ∙ ap (λ n. all n idle) places
+    ∙ sym (ap (λ t. t && all max_lanes idle) (eq-eqb (length j.positions) max_lanes places))

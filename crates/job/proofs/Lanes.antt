@@ -1,0 +1,48 @@
+-- The definitions' tests go over the lanes by their numbers, the code over the list of their positions: the two agree. Assumes nothing.
+use mathlib.Core.Path.{◌≡◌, refl, sym, ap, ap₂, ◌∙◌}
+use mathlib.Core.Bool.{Bool, true, ◌&&◌, ◌||◌}
+use mathlib.Core.List.{List}
+use Prim.Native.Nat.{ℕ, zero, suc, ◌+◌, ◌-◌, ◌≤◌, ◌<◌}
+use native.Mathlib.Numerals.{add-one}
+use native.Mathlib.Omega.{arith}
+use lib.Dec.{ltb}
+use lib.ListN.{length, get_or, take, drop, length-drop}
+use borrow.Author.Tests.{lt-ltb, le-ltb}
+use Rattle.std.specs.List.{list_all, list_any}
+use Rattle.std.proofs.lemmas.List.{get_or-drop}
+use Rattle.std.proofs.lemmas.List.Folds.{list_all_more, list_any_more}
+use Rattle.job.specs.Jobs.{all, any}
+use Rattle.job.proofs.Tests.{all_of, or_left}
+
+-- of the first n positions
+pub first_all : (f : ℕ → Bool) (xs : List ℕ) (n : ℕ) → n ≤ length xs → all n (λ l. f (get_or xs l 0)) ≡ list_all f (take n xs)
+first_all f xs zero h = refl
+first_all f xs (suc n) h =
+    ap (λ t. t && f (get_or xs n 0)) (first_all f xs n (omega arith))
+    ∙ sym (ap (λ k. list_all f (take k xs)) (sym (add-one n)) ∙ list_all_more f xs n 0 (omega arith))
+
+pub first_any : (f : ℕ → Bool) (xs : List ℕ) (n : ℕ) → n ≤ length xs → any n (λ l. f (get_or xs l 0)) ≡ list_any f (take n xs)
+first_any f xs zero h = refl
+first_any f xs (suc n) h =
+    ap (λ t. t || f (get_or xs n 0)) (first_any f xs n (omega arith))
+    ∙ sym (ap (λ k. list_any f (take k xs)) (sym (add-one n)) ∙ list_any_more f xs n 0 (omega arith))
+
+-- of the positions from n on
+from_all : (f : ℕ → Bool) (xs : List ℕ) (n k : ℕ) → n + k ≤ length xs
+    → all (n + k) (λ l. ltb l n || f (get_or xs l 0)) ≡ list_all f (take k (drop n xs))
+from_all f xs n zero h = all_of (n + zero) (λ l. ltb l n || f (get_or xs l 0)) (λ i p. or_left (f (get_or xs i 0)) (lt-ltb i n (omega arith)))
+from_all f xs n (suc k) h =
+    let g : ℕ → Bool = λ l. ltb l n || f (get_or xs l 0) in
+    let last : g (n + k) ≡ f (get_or (drop n xs) k 0) =
+    ap (λ t. t || f (get_or xs (n + k) 0)) (le-ltb (n + k) n (omega arith)) ∙ ap f (sym (get_or-drop n xs k 0)) in
+    let one_more : n + suc k ≡ suc (n + k) = omega arith in
+    let there : k < length (drop n xs) = rw length-drop (omega arith) in
+    ap (λ m. all m g) one_more
+    ∙ ap₂ (λ s t. s && t) (from_all f xs n k (omega arith)) last
+    ∙ sym (ap (λ m. list_all f (take m (drop n xs))) (sym (add-one k)) ∙ list_all_more f (drop n xs) k 0 there)
+
+pub idle_all : (f : ℕ → Bool) (xs : List ℕ) (n : ℕ) → n ≤ length xs
+    → all (length xs) (λ l. ltb l n || f (get_or xs l 0)) ≡ list_all f (take (length xs - n) (drop n xs))
+idle_all f xs n h =
+    let parts : length xs ≡ n + (length xs - n) = omega arith in
+    ap (λ m. all m (λ l. ltb l n || f (get_or xs l 0))) parts ∙ from_all f xs n (length xs - n) (omega arith)
