@@ -2,6 +2,7 @@ pub mod Bytes
 pub mod Copied
 pub mod Cut
 pub mod Half
+pub mod Library
 pub mod Part
 pub mod Rotation
 pub mod Settled
