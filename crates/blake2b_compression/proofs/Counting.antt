@@ -1,7 +1,9 @@
 -- A count of 128 bits in two words: what the compression sees of it, and a word added to it. Assumes nothing.
-use Rattle.std.proofs.Common.{◌≡◌, ℕ, zero, ◌+◌, ◌*◌, ◌/◌, ◌%◌, ◌^◌, ◌<◌, ◌≤◌, Bool, List, [], ◌∷◌, ◌++◌, length, sym, ap, ◌∙◌, mod-lt, mod-eq_of_lt, add-mul, add_comm, div-add-mod', arith, lit<}
+use Rattle.std.proofs.Common.{◌≡◌, ℕ, zero, ◌+◌, ◌*◌, ◌/◌, ◌%◌, ◌^◌, ◌<◌, Bool, true, false, List, [], ◌∷◌, ◌++◌, length, sym, ap, ◌∙◌, mod-lt, mod-eq_of_lt, add-mul, add_comm, div-add-mod', arith, lit<}
 use native.Mathlib.Nat.{add-mul-div_right, add-mul-mod_self_right}
 use lib.Pow.{low as low_part, high as high_part}
+use Rattle.std.specs.Bool.{FalseIff}
+use Rattle.std.specs.Int.{from_bool}
 use Rattle.word.specs.Table.{table}
 use Rattle.word.proofs.Table.{table_self}
 use Rattle.blake2b_compression.specs.declared.Count.{Count}
@@ -47,25 +49,22 @@ two_words : (t : ℕ) {l g : ℕ} → l ≡ t % 2 ^ 64 → g ≡ t / 2 ^ 64 % 2 
 unfolding count_of
 two_words t p q = λ i. record { low = p i; high = q i }
 
-carry : (low high n l : ℕ) → l + 2 ^ 64 ≡ low + n → low + high * 2 ^ 64 + n ≡ l + (high + 1) * 2 ^ 64
-carry low high n l e = rw (add-mul high 1 (2 ^ 64)) (omega arith)
+carry : (low high n l k : ℕ) → l + k * 2 ^ 64 ≡ low + n → low + high * 2 ^ 64 + n ≡ l + (high + k) * 2 ^ 64
+carry low high n l k e = rw (add-mul high k (2 ^ 64)) (omega arith)
 
-pub carried : (low high n l g : ℕ) → low < 2 ^ 64 → n < 2 ^ 64 → l ≡ (low + n) % 2 ^ 64 → l < n → g ≡ (high + 1) % 2 ^ 64
+carries : (low n l : ℕ) (c : Bool) → low < 2 ^ 64 → n < 2 ^ 64 → l ≡ (low + n) % 2 ^ 64 → FalseIff c (low + n < 2 ^ 64) → l + from_bool c * 2 ^ 64 ≡ low + n
+carries low n l true hl hn e f = omega (arith, f)
+carries low n l false hl hn e f = omega arith
+
+pub added : (low high n : ℕ) (c : Bool) {l g : ℕ} → low < 2 ^ 64 → n < 2 ^ 64
+    → l ≡ (low + n) % 2 ^ 64 → FalseIff c (low + n < 2 ^ 64) → g ≡ (high + from_bool c) % 2 ^ 64
     → ◌≡◌ {A = Count} (record { low = l; high = g }) (count_of (low + high * 2 ^ 64 + n))
-carried low high n l g hl hn e c f =
-    let w : l + 2 ^ 64 ≡ low + n = omega arith in
+added low high n c {l} {g} hl hn e f r =
+    let w : low + high * 2 ^ 64 + n ≡ l + (high + from_bool c) * 2 ^ 64 = carry low high n l (from_bool c) (carries low n l c hl hn e f) in
     let s : l < 2 ^ 64 = omega arith in
     two_words (low + high * 2 ^ 64 + n)
-    (rw (carry low high n l w) (sym (low_word l (high + 1) s)))
-    (rw (carry low high n l w, add_comm l ((high + 1) * 2 ^ 64), high_part (high + 1) 64 s) f)
-
-pub kept : (low high n l : ℕ) → low < 2 ^ 64 → high < 2 ^ 64 → n < 2 ^ 64 → l ≡ (low + n) % 2 ^ 64 → n ≤ l
-    → ◌≡◌ {A = Count} (record { low = l; high = high }) (count_of (low + high * 2 ^ 64 + n))
-kept low high n l hl hh hn e c =
-    let w : l ≡ low + n = omega arith in
-    let s : l < 2 ^ 64 = omega arith in
-    let r : low + high * 2 ^ 64 + n ≡ l + high * 2 ^ 64 = omega arith in
-    two_words (low + high * 2 ^ 64 + n) (rw r (sym (low_word l high s))) (rw r (sym (high_word l high s hh)))
+    (rw w (sym (low_word l (high + from_bool c) s)))
+    (rw (w, add_comm l ((high + from_bool c) * 2 ^ 64), high_part (high + from_bool c) 64 s) r)
 
 -- ---- a count of any size: what is kept of it counts on as the count itself does, in the two words that are seen
 pos : zero < 2 ^ 64

@@ -9,7 +9,6 @@ ghost use Rattle.blake2b_compression.specs.Compression.{flips, local, fold};
 ghost use Rattle.blake2b_compression.specs.Promises.{CompressPromise, AddPromise};
 
 use mixing::all_rounds;
-use std::num::wrapping_add_u64;
 use word::load_words;
 
 // The tables and the sizes of the compression.
@@ -94,16 +93,7 @@ fn vector(
 fn folded(h: [u64; Compression::STATE], v: [u64; Compression::WORDS]) -> [u64; Compression::STATE]
     ensures { result ≡ fold h v }
 {
-    [
-        h[0] ^ v[0] ^ v[8],
-        h[1] ^ v[1] ^ v[9],
-        h[2] ^ v[2] ^ v[10],
-        h[3] ^ v[3] ^ v[11],
-        h[4] ^ v[4] ^ v[12],
-        h[5] ^ v[5] ^ v[13],
-        h[6] ^ v[6] ^ v[14],
-        h[7] ^ v[7] ^ v[15],
-    ]
+    std::array::from_fn(|i| h[i] ^ v[i] ^ v[i + Compression::STATE])
 }
 
 // The state h after a block, with the count of bytes up to the block's end, in two words, and the mark of the last block.
@@ -135,17 +125,10 @@ impl Count {
     pub fn add(self, n: u64) -> Count
         ensures { AddPromise self n result }
     {
-        let low = wrapping_add_u64(self.low, n);
-        if low < n {
-            Count {
-                low,
-                high: wrapping_add_u64(self.high, 1),
-            }
-        } else {
-            Count {
-                low,
-                high: self.high,
-            }
+        let (low, carry) = self.low.overflowing_add(n);
+        Count {
+            low,
+            high: self.high.wrapping_add(u64::from(carry)),
         }
     }
 }

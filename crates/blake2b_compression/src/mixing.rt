@@ -4,29 +4,13 @@ ghost use Rattle.word.specs.Table.{table};
 ghost use Rattle.blake2b_compression.specs.Compression.{◌!◌, block_words, rounds, G, round, mixed};
 
 use crate::Compression;
-use std::num::wrapping_add_u64;
-use word::{rotr16, rotr24, rotr32, rotr63};
-
-// An entry of the schedule as an index.
-fn index(b: u8) -> usize
-    ensures { result ≡ b }
-{
-    b as usize
-}
 
 // The words of m in the order that s gives.
 fn scheduled(m: [u64; Compression::WORDS], s: [u8; Compression::WORDS]) -> [u64; Compression::WORDS]
     requires { (j : ℕ) → s ! j < block_words }
     ensures { result ≡ table (λ j. m ! (s ! j)) block_words }
 {
-    let mut w = [0u64; Compression::WORDS];
-    let mut j = 0;
-    while j < Compression::WORDS {
-        let k = index(s[j]);
-        w[j] = m[k];
-        j += 1;
-    }
-    w
+    std::array::from_fn(|j| m[s[j] as usize])
 }
 
 // The mixing function G on four words of v, with the message words x and y.
@@ -43,14 +27,14 @@ fn g(
     ensures { result ≡ G v a b c d x y }
 {
     let mut w = v;
-    w[a] = wrapping_add_u64(wrapping_add_u64(w[a], w[b]), x);
-    w[d] = rotr32(w[d] ^ w[a]);
-    w[c] = wrapping_add_u64(w[c], w[d]);
-    w[b] = rotr24(w[b] ^ w[c]);
-    w[a] = wrapping_add_u64(wrapping_add_u64(w[a], w[b]), y);
-    w[d] = rotr16(w[d] ^ w[a]);
-    w[c] = wrapping_add_u64(w[c], w[d]);
-    w[b] = rotr63(w[b] ^ w[c]);
+    w[a] = w[a].wrapping_add(w[b]).wrapping_add(x);
+    w[d] = (w[d] ^ w[a]).rotate_right(32);
+    w[c] = w[c].wrapping_add(w[d]);
+    w[b] = (w[b] ^ w[c]).rotate_right(24);
+    w[a] = w[a].wrapping_add(w[b]).wrapping_add(y);
+    w[d] = (w[d] ^ w[a]).rotate_right(16);
+    w[c] = w[c].wrapping_add(w[d]);
+    w[b] = (w[b] ^ w[c]).rotate_right(63);
     w
 }
 
@@ -80,13 +64,10 @@ pub(crate) fn all_rounds(
 {
     let schedule = Compression::SIGMA;
     let mut v = v;
-    let mut i = 0;
-    while i < Compression::ROUNDS {
-        let s = schedule[i % Compression::ROWS];
-        let w = scheduled(m, s);
+    for i in 0..Compression::ROUNDS {
+        let w = scheduled(m, schedule[i % Compression::ROWS]);
         let u = one_round(v, w);
         v = u;
-        i += 1;
     }
     v
 }

@@ -1,10 +1,7 @@
 -- `blake2b_compression::mixing::all_rounds` meets its contract. The invariant: v has had i rounds. Assumes nothing.
-use Rattle.std.proofs.Common.{◌≡◌, ◌-◌, ◌≤◌}
-use Rattle.blake2b_compression.specs.Compression.{rounds, mixed}
+use Rattle.std.proofs.Common.{◌≡◌}
+use Rattle.blake2b_compression.specs.Compression.{mixed}
 use Rattle.blake2b_compression.proofs.mixing.all_rounds.Given as goal
 
 abbrev pub invariant-loop-i : goal.invariant-loop-i
-invariant-loop-i l = (l.i ≤ rounds) × (l.v ≡ mixed l.i l.m l.initial.v)
-
-abbrev pub decreases-loop-i : goal.decreases-loop-i
-decreases-loop-i l = rounds - l.i
+invariant-loop-i l = l.v ≡ mixed l.i l.m l.initial.v
