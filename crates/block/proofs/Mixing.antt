@@ -9,8 +9,7 @@ wraps a b p =
     sym (add-mod (a + b) (p + p) (2 ^ 64))
     ∙ ap (λ (n : ℕ). (a + b + n) % 2 ^ 64) (omega arith)
 
--- the sum of sums, from the equations of its parts
-pub mixed : (a b : ℕ) {t u s d r : ℕ} → r ≡ (s + d) % 2 ^ 64 → s ≡ (a + b) % 2 ^ 64 → d ≡ (t * u + t * u) % 2 ^ 64 → t ≡ low_half a → u ≡ low_half b
-    → r ≡ multiply_add a b
+-- the sum of sums, of the low halves
+pub mixed : (a b : ℕ) {t u : ℕ} → t ≡ low_half a → u ≡ low_half b → ((a + b) % 2 ^ 64 + (t * u + t * u) % 2 ^ 64) % 2 ^ 64 ≡ multiply_add a b
 unfolding multiply_add
-mixed a b e₅ e₄ e₃ e₂ e₁ = cc (wraps a b (low_half a * low_half b))
+mixed a b e f = rw (e, f) (wraps a b (low_half a * low_half b))

@@ -2,13 +2,15 @@
 
 #![tactic(auto)]
 
-ghost use Rattle.std.specs.Prelude.{◌≡◌, ℕ, ◌+◌, ◌*◌, ◌<◌, [], ◌∷◌, length, bit_xor};
-ghost use Rattle.word.specs.Word.{rotr};
+mod registers;
+
+ghost use Rattle.std.specs.Prelude.{◌≡◌, [], ◌∷◌};
 ghost use Rattle.block.specs.Block as spec;
-ghost use Rattle.block.specs.Line.{Inside, Laid, Cut, Permuted};
+ghost use Rattle.block.specs.Line.{Cut, Permuted};
 ghost use Rattle.block.specs.Promises.{PermutePromise, NewPromise, FromBytesPromise, ToBytesPromise, XorPromise, CompressPromise};
 
-use word::{WORD, load_words, low_half, rotr16, rotr24, rotr32, rotr63, store_words};
+use registers::Line;
+use word::{WORD, load_words, low_half, store_words};
 
 // A block of memory, as words.
 #[derive(Clone, Copy)]
@@ -21,34 +23,8 @@ fn multiply_add(a: u64, b: u64) -> u64
     ensures { result ≡ spec.multiply_add a b }
 {
     let product = low_half(a) * low_half(b);
-    let sum = std::num::wrapping_add_u64(a, b);
-    let doubled = std::num::wrapping_add_u64(product, product);
-    std::num::wrapping_add_u64(sum, doubled)
-}
-
-// The XOR of two words, turned by the first, second, third and fourth rotation of a quarter step.
-fn turn1(x: u64, y: u64) -> u64
-    ensures { result ≡ rotr spec.R1 (bit_xor x y) }
-{
-    rotr32(x ^ y)
-}
-
-fn turn2(x: u64, y: u64) -> u64
-    ensures { result ≡ rotr spec.R2 (bit_xor x y) }
-{
-    rotr24(x ^ y)
-}
-
-fn turn3(x: u64, y: u64) -> u64
-    ensures { result ≡ rotr spec.R3 (bit_xor x y) }
-{
-    rotr16(x ^ y)
-}
-
-fn turn4(x: u64, y: u64) -> u64
-    ensures { result ≡ rotr spec.R4 (bit_xor x y) }
-{
-    rotr63(x ^ y)
+    let doubled = product.wrapping_add(product);
+    a.wrapping_add(b).wrapping_add(doubled)
 }
 
 // The four words of a quarter step.
@@ -65,13 +41,13 @@ fn quarter(a: u64, b: u64, c: u64, d: u64) -> Four
     ensures { result.a ∷ result.b ∷ result.c ∷ result.d ∷ [] ≡ spec.quarter a b c d }
 {
     let a1 = multiply_add(a, b);
-    let d1 = turn1(d, a1);
+    let d1 = (d ^ a1).rotate_right(32);
     let c1 = multiply_add(c, d1);
-    let b1 = turn2(b, c1);
+    let b1 = (b ^ c1).rotate_right(24);
     let a2 = multiply_add(a1, b1);
-    let d2 = turn3(d1, a2);
+    let d2 = (d1 ^ a2).rotate_right(16);
     let c2 = multiply_add(c1, d2);
-    let b2 = turn4(b1, c2);
+    let b2 = (b1 ^ c2).rotate_right(63);
     Four {
         a: a2,
         b: b2,
@@ -98,54 +74,19 @@ pub fn permute(words: [u64; Block::ROW]) -> [u64; Block::ROW]
     ]
 }
 
-// Where word k of a line of registers stands: the line has register first, and each step-th after it.
-fn place(first: usize, step: usize, k: usize) -> usize
-    requires { Inside first step × (k < spec.row_words) }
-    ensures { (result ≡ spec.place first step k) × (result < spec.block_words) }
-{
-    Block::REGISTER * (first + step * (k / Block::REGISTER)) + k % Block::REGISTER
-}
-
-// The words of a line of registers.
-fn registers(q: &[u64; Block::WORDS], first: usize, step: usize) -> [u64; Block::ROW]
-    requires { Inside first step }
-    ensures { result ≡ spec.registers first step q.now }
-{
-    let mut v = [0; Block::ROW];
-    let mut k = 0;
-    while k < Block::ROW {
-        let at = place(first, step, k);
-        v[k] = q[at];
-        k += 1;
-    }
-    v
-}
-
-// Sixteen words laid down as a line of registers; every other word stays.
-fn lay(t: &mut [u64; Block::WORDS], first: usize, step: usize, v: [u64; Block::ROW])
-    requires { Inside first step × (length t.old ≡ spec.block_words) }
-    ensures { Laid first step spec.row_words v t.old t.new }
-{
-    let mut k = 0;
-    while k < Block::ROW {
-        let at = place(first, step, k);
-        t[at] = v[k];
-        k += 1;
-    }
-}
-
 // The permutation on every line: line i begins at register between * i.
 fn lines(q: Block, between: usize, step: usize) -> Block
     requires { Cut between step }
     ensures { Permuted between step spec.side q.words result.words }
 {
     let mut z = [0; Block::WORDS];
-    let mut i = 0;
-    while i < Block::SIDE {
-        let first = between * i;
-        let v = permute(registers(&q.words, first, step));
-        lay(&mut z, first, step, v);
-        i += 1;
+    for i in 0..Block::SIDE {
+        let line = Line {
+            first: between * i,
+            step,
+        };
+        let v = permute(line.read(&q.words));
+        line.lay(&mut z, v);
     }
     Block { words: z }
 }
@@ -202,9 +143,8 @@ impl Block {
     pub fn to_bytes(self) -> [u8; Block::SIZE]
         ensures { ToBytesPromise self result }
     {
-        let words = self.words;
         let mut written = [0; Block::SIZE];
-        store_words(&words, &mut written);
+        store_words(&self.words, &mut written);
         written
     }
 
@@ -212,13 +152,9 @@ impl Block {
     pub fn xor(x: Block, y: Block) -> Block
         ensures { XorPromise x y result }
     {
-        let mut words = [0; Block::WORDS];
-        let mut k = 0;
-        while k < Block::WORDS {
-            words[k] = x.words[k] ^ y.words[k];
-            k += 1;
+        Block {
+            words: std::array::from_fn(|k| x.words[k] ^ y.words[k]),
         }
-        Block { words }
     }
 
     // The compression G of two blocks: the permutation on the rows of their XOR, then on the columns, XORed with it.

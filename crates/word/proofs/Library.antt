@@ -4,7 +4,7 @@ use mathlib.Core.List.{List}
 use mathlib.Core.Path.{◌≡◌, refl, sym, ap, ◌∙◌, subst}
 use native.Mathlib.Nat.{add_comm, add-zero, div-div-eq-div-mul}
 use native.Mathlib.Omega.{arith}
-use lib.Bits.{bit_or, or_shifted_r}
+use lib.Bits.{bit_or, bit_xor, or_shifted_r, xor_lt}
 use lib.ListN.{length, get_or}
 use lib.Pow.{pow_pos, shr_lt}
 use Rattle.std.proofs.lemmas.Nat.{mod-pow-add, shl-shr, mod_low}
@@ -28,6 +28,10 @@ rotate_right_is_rotr n x some less h =
     let high : x / 2 ^ n < 2 ^ j = shr_lt j n (subst (λ (i : ℕ). x < 2 ^ i) other h) in
     rw (down, up)
     (ap (bit_or (x / 2 ^ n)) low ∙ or_shifted_r (x % 2 ^ n) j (x / 2 ^ n) high ∙ add_comm (x % 2 ^ n * 2 ^ j) (x / 2 ^ n))
+
+-- `(x ^ y).rotate_right(n)`
+pub xor_rotated : (n x y : ℕ) → 0 < n → n < 64 → x < 2 ^ 64 → y < 2 ^ 64 → rotate_right w64 (bit_xor x y) n ≡ rotr n (bit_xor x y)
+xor_rotated n x y some less a b = rotate_right_is_rotr n (bit_xor x y) some less (xor_lt 64 x y a b)
 
 -- `x.to_le_bytes()`
 pub to_le_bytes_8 : (x : ℕ) → to_le_bytes w64 x ≡ to_le 8 x

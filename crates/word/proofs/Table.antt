@@ -37,18 +37,19 @@ is_table f n l e h =
     ext_get_or 0 l (table f n) (e ∙ sym (length-table f n)) (λ k b. h k (omega arith) ∙ sym (get_or-table f n k (omega arith)))
 
 -- `array::from_fn` of a closure that gives what f says, and that no call changes
-module _ {F : Type 0} (g : Mut F (ℕ × Unit {0}) ℕ) (c : F) (f : ℕ → ℕ) (l : List ℕ) (h : (k r : ℕ) (d : F) → Called g c (k, tt) r d → (r ≡ f k) × (d ≡ c)) where
-  each : (i n k : ℕ) → IsFromFnResultFrom g c l i n → i ≤ k → k < i + n → get_or l k 0 ≡ f k
-  each i zero k w a b = omega arith
-  each i (suc n) k w a b =
-      let now = h i w.1 w.0 w.3 in
-      ⊎_elim
-      (λ (s : i ≡ k). subst (λ (m : ℕ). get_or l m 0 ≡ f m) s (w.2.1 0 ∙ now.0))
-      (λ (s : i < k). each (i + 1) n k (subst (λ (d : F). IsFromFnResultFrom g d l (i + 1) n) now.1 w.4) (omega arith) (omega arith))
-      (eq-or-lt_of_le a)
+each : {F : Type 0} (g : Mut F (ℕ × Unit {0}) ℕ) (c : F) (l : List ℕ) (f : ℕ → ℕ) → ((k r : ℕ) (d : F) → Called g c (k, tt) r d → (r ≡ f k) × (d ≡ c))
+    → (i n k : ℕ) → IsFromFnResultFrom g c l i n → i ≤ k → k < i + n → get_or l k 0 ≡ f k
+each {F} g c l f h i zero k w a b = omega arith
+each {F} g c l f h i (suc n) k w a b =
+    let now = h i w.1 w.0 w.3 in
+    ⊎_elim
+    (λ (s : i ≡ k). subst (λ (m : ℕ). get_or l m 0 ≡ f m) s (w.2.1 0 ∙ now.0))
+    (λ (s : i < k). each g c l f h (i + 1) n k (subst (λ (d : F). IsFromFnResultFrom g d l (i + 1) n) now.1 w.4) (omega arith) (omega arith))
+    (eq-or-lt_of_le a)
 
-  pub by_calls : (n : ℕ) → IsFromFnResult g c l n → l ≡ table f n
-  by_calls n w = is_table f n l w.long (λ k b. each 0 n k w.each (omega arith) (omega arith))
+pub by_calls : {F : Type 0} {g : Mut F (ℕ × Unit {0}) ℕ} {c : F} {l : List ℕ} (f : ℕ → ℕ)
+    → ((k r : ℕ) (d : F) → Called g c (k, tt) r d → (r ≡ f k) × (d ≡ c)) → (n : ℕ) → IsFromFnResult g c l n → l ≡ table f n
+by_calls {g = g} {c = c} {l = l} f h n w = is_table f n l w.long (λ k b. each g c l f h 0 n k w.each (omega arith) (omega arith))
 
 -- two rules that agree below n have one table
 pub same_table : (f g : ℕ → ℕ) (n : ℕ) → ((k : ℕ) → k < n → f k ≡ g k) → table f n ≡ table g n

@@ -8,4 +8,4 @@ pub returns : goal.returns
 unfolding fold
 returns c =
     let a = c.args in
-    by_calls _ _ (λ i. a.h ! i ⊕ a.v ! i ⊕ a.v ! (i + state_words)) _ (λ i r f k. search rules) state_words c.from_fn.ensures.items
+    by_calls (λ i. a.h ! i ⊕ a.v ! i ⊕ a.v ! (i + state_words)) (λ i r f k. search rules) state_words c.from_fn.ensures.items

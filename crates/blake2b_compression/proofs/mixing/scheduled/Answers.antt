@@ -6,4 +6,4 @@ use Rattle.blake2b_compression.proofs.mixing.scheduled.Goals as goal
 
 pub returns : goal.returns
 returns c =
-    by_calls _ _ (λ j. c.args.m ! (c.args.s ! j)) _ (λ j r f' k. search rules) block_words c.from_fn.ensures.items
+    by_calls (λ j. c.args.m ! (c.args.s ! j)) (λ j r f' k. search rules) block_words c.from_fn.ensures.items

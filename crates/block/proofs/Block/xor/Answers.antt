@@ -1,17 +1,14 @@
--- `block::Block::xor` meets its contract: the loop fills the table word by word. Assumes nothing.
-use Rattle.std.proofs.Common.{refl, arith, length-set}
-use Rattle.word.proofs.Table.{is_table, filled}
+-- `block::Block::xor` meets its contract: each call of the closure gives its word. Assumes nothing.
+use Rattle.std.proofs.Common.{rules, get_or, bit_xor}
+use Rattle.word.proofs.Table.{by_calls}
 use Rattle.block.specs.Block.{block_words, xors}
 use Rattle.block.proofs.Block.xor.Goals as goal
 
-pub loop-k-init : goal.loop-k-init
-loop-k-init c = (omega arith, refl, λ j b. omega arith)
-
-pub loop-k-preserved : goal.loop-k-preserved
-loop-k-preserved c =
-    let l = c.loop-k in
-    (omega arith, simp length-set (omega arith), filled _ l.words l.k _ (omega arith) l.invariant.2 refl)
-
 pub returns : goal.returns
 unfolding xors
-returns c = record { result = is_table _ block_words _ (omega arith) (λ k b. c.loop-k.invariant.2 k (omega arith)) }
+returns c =
+    let a = c.args in
+    record {
+      result =
+          by_calls (λ k. bit_xor (get_or a.x.words k 0) (get_or a.y.words k 0)) (λ k r f h. search rules) block_words c.from_fn.ensures.items;
+    }
