@@ -8,7 +8,7 @@ ghost use Rattle.word.specs.Word.{bytes};
 ghost use Rattle.blake2b.specs.Blake2b.{max_output, initial, final};
 ghost use Rattle.blake2b_long.specs.Promises.{LongPromise};
 
-use answer::{Answer, check_length};
+use answer::{Refusal, check_length};
 use blake2b::Engine;
 use word::{MAX_LENGTH, to_le32};
 
@@ -19,20 +19,14 @@ const HALF_HASH: usize = Engine::MAX_OUTPUT / 2;
 fn hash_length(n: usize) -> usize
     ensures { result ≡ min n max_output }
 {
-    if n < Engine::MAX_OUTPUT {
-        n
-    } else {
-        Engine::MAX_OUTPUT
-    }
+    n.min(Engine::MAX_OUTPUT)
 }
 
 // The 64 bytes that a hash of v has, for an output of n bytes.
 fn hash_of(v: [u8; Engine::MAX_OUTPUT], n: usize) -> [u8; Engine::MAX_OUTPUT]
     ensures { result ≡ bytes (final (initial n) v) }
 {
-    let s = Engine::begin(Engine::initial(n));
-    let s = s.feed(&v);
-    s.end()
+    Engine::begin(Engine::initial(n)).feed(&v).end()
 }
 
 // The first n bytes of v go to out, from at on.
@@ -40,24 +34,20 @@ fn put(v: [u8; Engine::MAX_OUTPUT], n: usize, out: &mut [u8], at: usize)
     requires { (n ≤ max_output) × (at + n ≤ length out.old) }
     ensures { out.new ≡ paste out.old at v n }
 {
-    let whole = &v[..];
-    out[at..at + n].copy_from_slice(&whole[..n]);
+    out[at..at + n].copy_from_slice(&v[..n]);
 }
 
 // The hash of the input, of as many bytes as out has: 1 to 2^32 - 1.
-pub fn blake2b_long(input: &[u8], out: &mut [u8]) -> Answer
+pub fn blake2b_long(input: &[u8], out: &mut [u8]) -> Result<(), Refusal>
     ensures { LongPromise input.now out.old result out.new }
 {
     let n = out.len();
-    let a = check_length(1, MAX_LENGTH, n);
-    if a.number() != 0 {
-        return a;
-    }
+    check_length(1, MAX_LENGTH, n)?;
     let count = to_le32(n as u32);
-    let s = Engine::begin(Engine::initial(hash_length(n)));
-    let s = s.feed(&count);
-    let s = s.feed(input);
-    let mut v = s.end();
+    let mut v = Engine::begin(Engine::initial(hash_length(n)))
+        .feed(&count)
+        .feed(input)
+        .end();
     let mut at = 0;
     while Engine::MAX_OUTPUT < n - at {
         put(v, HALF_HASH, out, at);
@@ -66,5 +56,5 @@ pub fn blake2b_long(input: &[u8], out: &mut [u8]) -> Answer
         v = w;
     }
     put(v, n - at, out, at);
-    a
+    Ok(())
 }

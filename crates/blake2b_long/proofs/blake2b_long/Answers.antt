@@ -1,7 +1,7 @@
 -- `blake2b_long::blake2b_long` meets its contract. The invariant: what is written, and the pieces that are left, is the whole. Assumes nothing.
 use Rattle.std.proofs.Common.{◌≡◌, ℕ, ◌+◌, ◌-◌, min, ◌++◌, refl, sym, ap, ◌∙◌, arith, rules, length}
 use Rattle.answer.specs.Answers.{first, length_rows}
-use Rattle.answer.proofs.Answered.{left_new, left_old}
+use Rattle.answer.proofs.Answered.{left_new}
 use Rattle.word.specs.Word.{to_le, max_length}
 use Rattle.blake2b.specs.Blake2b.{max_output, initial}
 use Rattle.blake2b.specs.Stream.{feed_all}
@@ -10,29 +10,18 @@ use Rattle.blake2b_long.specs.Long.{length_bytes, half_hash, long}
 use Rattle.blake2b_long.proofs.Writing.{digest_of, fed_twice, ahead, one_on, all_on}
 use Rattle.blake2b_long.proofs.blake2b_long.Goals as goal
 
-pub returns-then-number-ne0 : goal.returns-then-number-ne0
-returns-then-number-ne0 c =
-    let a = c.args in
-    let f = first (length_rows 1 max_length (length a.out.now)) in
-    let numbered : c.number.result ≡ f = c.number.ensures.result ∙ c.check_length-a.ensures.answer in
-    let refused : f ≡ 0 → ⊥ = λ z. omega (arith, z) in
-    record {
-      answer = c.check_length-a.ensures.answer;
-      output = sym (left_old f (long (length a.out.now) a.input.now) a.out.now refused);
-    }
-
 pub loop-at-init : goal.loop-at-init
 loop-at-init c =
     let a = c.args in
     let n = length a.out.now in
-    let s = c.begin-s.result in (
+    let s = c.begin.result in (
       omega arith,
       refl,
       ahead n a.input.now c.end-v.result a.out.now
           (ended (min n max_output) (to_le length_bytes n ++ a.input.now)
           (c.initial.ensures.result ∙ ap initial c.hash_length.ensures)
-          c.begin-s.ensures.result
-          (fed_twice s (to_le length_bytes n) a.input.now (c.feed-s.ensures.result ∙ ap (feed_all s) c.to_le32-count.ensures.result) c.feed-s-2.ensures.result)
+          c.begin.ensures.result
+          (fed_twice s (to_le length_bytes n) a.input.now (c.feed.ensures.result ∙ ap (feed_all s) c.to_le32-count.ensures.result) c.feed-2.ensures.result)
           c.end-v.ensures.result),
     )
 
@@ -52,9 +41,9 @@ returns c =
     let l = c.loop-at in
     let n = length a.out.now in
     let f = first (length_rows 1 max_length n) in
-    let accepted : f ≡ 0 = omega (arith, c.number.ensures.result ∙ c.check_length-a.ensures.answer) in
+    let accepted : f ≡ 0 = sym c.in_ok-check_length.ensures.answer in
     record {
-      answer = c.check_length-a.ensures.answer;
+      answer = c.in_ok-check_length.ensures.answer;
       output =
           c.put-2.ensures
           ∙ all_on l.out l.at (n - l.at) l.invariant.2 (omega arith) (omega arith)

@@ -4,4 +4,4 @@ use Rattle.blake2b_long.proofs.hash_of.Goals as goal
 
 pub returns : goal.returns
 returns c =
-    ended _ _ c.initial.ensures.result c.begin-s.ensures.result c.feed-s.ensures.result c.end.ensures.result
+    ended _ _ c.initial.ensures.result c.begin.ensures.result c.feed.ensures.result c.end.ensures.result
