@@ -31,6 +31,7 @@ impl Engine {
     const SEQUENTIAL: u64 = Engine::FANOUT * 0x1_0000 + Engine::DEPTH * 0x100_0000;
 
     // The first word of the parameter block: no key, an output of n bytes.
+    #[tactic(auto, unfolding(crate::specs::Blake2b::parameter))]
     fn parameter(n: usize) -> u64
         ensures { result ≡ parameter n }
     {
@@ -38,15 +39,17 @@ impl Engine {
     }
 
     // The state before any block, for an output of n bytes.
+    #[tactic(auto, unfolding(crate::specs::Blake2b::initial))]
     pub fn initial(n: usize) -> [u64; Compression::STATE]
         ensures { InitialPromise n result }
     {
         let mut h = Compression::IV;
-        h[0] = h[0] ^ Self::parameter(n);
+        h[0] ^= Self::parameter(n);
         h
     }
 
     // Nothing taken yet, from the state h on.
+    #[tactic(auto, unfolding(crate::specs::Stream::fresh))]
     pub fn begin(h: [u64; Compression::STATE]) -> Engine
         ensures { BeginPromise h result }
     {
@@ -68,22 +71,18 @@ impl Engine {
         let mut filled = self.filled;
         let mut low = self.low;
         let mut high = self.high;
-        let mut i = 0;
-        while i < piece.len() {
+        for byte in piece {
             if Compression::BLOCK <= filled {
-                let c = Count { low, high };
-                let c = c.add(Compression::BLOCK as u64);
+                let c = Count { low, high }.add(Compression::BLOCK as u64);
                 let g = compress(h, buffer, c.low, c.high, false);
                 h = g;
-                let zeros = [0u8; Compression::BLOCK];
-                buffer = zeros;
+                buffer = [0u8; Compression::BLOCK];
                 filled = 0;
                 low = c.low;
                 high = c.high;
             }
-            buffer[filled] = piece[i];
+            buffer[filled] = *byte;
             filled += 1;
-            i += 1;
         }
         Engine {
             h,
@@ -98,16 +97,14 @@ impl Engine {
     pub fn end(self) -> [u8; Engine::MAX_OUTPUT]
         ensures { EndPromise self result }
     {
-        let h = self.h;
-        let buffer = self.buffer;
         let c = Count {
             low: self.low,
             high: self.high,
-        };
-        let c = c.add(self.filled as u64);
-        let g = compress(h, buffer, c.low, c.high, true);
+        }
+        .add(self.filled as u64);
+        let h = compress(self.h, self.buffer, c.low, c.high, true);
         let mut d = [0u8; Self::MAX_OUTPUT];
-        store_words(&g, &mut d);
+        store_words(&h, &mut d);
         d
     }
 }

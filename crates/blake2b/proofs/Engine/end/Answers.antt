@@ -17,9 +17,9 @@ pub returns : goal.returns
 unfolding sealed count offset
 returns c =
     let s = c.args.self in
-    let n : length c.compress-g.result ≡ state_words = search rules in
+    let n : length c.compress-h.result ≡ state_words = search rules in
     record {
       result =
-          store_whole c.compress-g.result (replicate max_output 0) (omega arith) c.store_words.ensures.output
-          ∙ ap bytes (compressed s.h s.buffer (count s + s.filled) true c.compress-g.ensures.result c.add-c.ensures.result);
+          store_whole c.compress-h.result (replicate max_output 0) (omega arith) c.store_words.ensures.output
+          ∙ ap bytes (compressed s.h s.buffer (count s + s.filled) true c.compress-h.ensures.result c.add-c.ensures.result);
     }

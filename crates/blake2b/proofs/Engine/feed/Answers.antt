@@ -1,19 +1,16 @@
 -- `blake2b::Engine::feed` meets its contract. The invariant: what is left to take leads to the same state. Assumes nothing.
-use Rattle.std.proofs.Common.{◌≡◌, ℕ, ◌<◌, ◌∙◌, refl, arith}
+use Rattle.std.proofs.Common.{◌≡◌, ℕ, ◌<◌, ◌∙◌, arith}
 use Rattle.blake2b_compression.specs.Compression.{block_bytes, offset}
 use Rattle.blake2b.specs.Stream.{count, put, feed_byte}
 use Rattle.blake2b.proofs.Feeding.{state, same_state, flushed_is, full_turn, room_turn, fed, all_fed}
 use Rattle.blake2b.proofs.Engine.feed.Goals as goal
 use Rattle.blake2b.proofs.Engine.feed.Goals.{then-filled-ge-BLOCK, else-filled-ge-BLOCK}
 
-pub loop-i-init : goal.loop-i-init
-loop-i-init c = (omega arith, refl)
-
 -- where the branch has met there is room, and a byte more is what the definition says
-pub loop-i-preserved : goal.loop-i-preserved
+pub loop-byte-preserved : goal.loop-byte-preserved
 unfolding put count offset
-loop-i-preserved c =
-    let l = c.loop-i in
+loop-byte-preserved c =
+    let l = c.loop-byte in
     let j = c.if-filled-ge-BLOCK in
     let s = state l.h l.buffer l.filled l.low l.high in
     let s' = state j.h j.buffer j.filled j.low j.high in
@@ -23,7 +20,7 @@ loop-i-preserved c =
       | else-filled-ge-BLOCK w ↦ room_turn s s' w.if-filled-ge-BLOCK.false (same_state w.h-is w.buffer-is w.filled-is w.low-is w.high-is)
     ]
     in
-    (omega arith, fed _ _ _ _ _ c.loop-i-test.true (joined.1 _) l.invariant.1)
+    fed _ _ _ c.args.piece.now l.byte-index (omega arith) (joined.1 _) l.invariant
 
 pub returns : goal.returns
-returns c = record { result = all_fed _ _ _ _ c.loop-i-test.false c.loop-i.invariant.1 }
+returns c = record { result = all_fed _ _ c.args.piece.now c.loop-byte.byte-index (omega arith) c.loop-byte.invariant }
