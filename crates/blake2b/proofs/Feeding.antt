@@ -15,11 +15,11 @@ use Rattle.blake2b.specs.declared.Engine.{Engine}
 use Rattle.blake2b.specs.Stream.{count, flushed, put, feed_byte, feed_all}
 
 -- an engine by its fields
-abbrev pub state : List ℕ → List ℕ → ℕ → ℕ → ℕ → Engine
-state h b f l g = record { h = h; buffer = b; filled = f; low = l; high = g }
+abbrev pub state : List ℕ → List ℕ → ℕ → Count → Engine
+state h b f c = record { h = h; buffer = b; filled = f; count = c }
 
-pub same_state : {h h' v v' : List ℕ} {f f' l l' g g' : ℕ} → h ≡ h' → v ≡ v' → f ≡ f' → l ≡ l' → g ≡ g' → state h v f l g ≡ state h' v' f' l' g'
-same_state p q r s t = λ i. state (p i) (q i) (r i) (s i) (t i)
+pub same_state : {h h' v v' : List ℕ} {f f' : ℕ} {c c' : Count} → h ≡ h' → v ≡ v' → f ≡ f' → c ≡ c' → state h v f c ≡ state h' v' f' c'
+same_state p q r s = λ i. state (p i) (q i) (r i) (s i)
 
 -- the two ways into a byte's store
 pub full_turn : (s s' : Engine) → block_bytes ≤ s.filled → s' ≡ flushed s → (s'.filled < block_bytes) × ((x : ℕ) → put s' x ≡ feed_byte s x)
@@ -31,10 +31,9 @@ unfolding feed_byte
 room_turn s s' h e = (rw e h, λ x. rw (lt-ltb s.filled block_bytes h) (ap (λ (u : Engine). put u x) e))
 
 pub flushed_is : (s : Engine) {g : List ℕ} {c : Count} → g ≡ F s.h (words s.buffer) (c.low + c.high * 2 ^ 64) false → c ≡ count_of (count s + block_bytes)
-    → state g (replicate block_bytes 0) 0 c.low c.high ≡ flushed s
-unfolding flushed count_of
-flushed_is s e p =
-    same_state (compressed s.h s.buffer (count s + block_bytes) false e p) refl refl (ap (λ (c : Count). c.low) p) (ap (λ (c : Count). c.high) p)
+    → state g (replicate block_bytes 0) 0 c ≡ flushed s
+unfolding flushed
+flushed_is s e p = same_state (compressed s.h s.buffer (count s + block_bytes) false e p) refl refl p
 
 -- what is left to take leads to the same state, one byte on and at the end
 pub fed : (s s' r : Engine) (p : List ℕ) (i : ℕ) → i < length p → s' ≡ feed_byte s (p ! i) → feed_all s (drop i p) ≡ r → feed_all s' (drop (i + 1) p) ≡ r

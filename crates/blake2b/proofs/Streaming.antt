@@ -1,6 +1,6 @@
 -- The state after a message's bytes is the RFC's: `streamed`. However the message is cut, the state is the same: `cut`.
 -- `state_of` says what the engine holds after any message, for any h₀, and a byte more is shown to keep it so. Assumes nothing.
-use Prim.Native.Nat.{ℕ, zero, suc, ◌+◌, ◌-◌, ◌*◌, ◌/◌, ◌%◌, ◌^◌, ◌<◌, ◌≤◌}
+use Prim.Native.Nat.{ℕ, zero, suc, ◌+◌, ◌-◌, ◌*◌, ◌/◌, ◌<◌, ◌≤◌}
 use mathlib.Core.Bool.{true, false}
 use mathlib.Core.List.{List, [], ◌∷◌, ◌++◌, append_assoc, append-nil}
 use mathlib.Core.Path.{◌≡◌, refl, sym, ap, ◌∙◌}
@@ -10,8 +10,9 @@ use borrow.Author.Tests.{lt-ltb, le-ltb}
 use lib.ListN.{set, drop, length, replicate, length-append, length-drop}
 use lib.Seq.{take_all, take-append-le, drop-append-le, drop_at, set-append_seam}
 use Rattle.word.specs.Word.{bytes}
-use Rattle.blake2b_compression.specs.Compression.{block_bytes, F, words}
+use Rattle.blake2b_compression.specs.Compression.{block_bytes, F, words, offset, count_of}
 use Rattle.blake2b_compression.proofs.Counting.{seen_low, seen_high, F_seen}
+use Rattle.blake2b_compression.specs.declared.Count.{Count}
 use Rattle.blake2b.specs.declared.Engine.{Engine}
 use Rattle.blake2b.specs.Blake2b.{pad, block, chain, before, final}
 use Rattle.blake2b.specs.Stream.{count, fresh, flushed, put, feed_byte, feed_all, sealed}
@@ -57,13 +58,20 @@ state_of h₀ msg =
       h = chain h₀ (before msg) msg;
       buffer = block (before msg) msg;
       filled = length msg - block_bytes * before msg;
-      low = (block_bytes * before msg) % 2 ^ 64;
-      high = (block_bytes * before msg) / 2 ^ 64 % 2 ^ 64;
+      count = count_of (block_bytes * before msg);
     }
 
 nothing : (h₀ : List ℕ) → fresh h₀ ≡ state_of h₀ []
-unfolding fresh state_of chain before block pad
+unfolding fresh state_of count_of chain before block pad
 nothing h₀ = refl
+
+-- of a count, two words are kept
+two_words : {l l' g g' : ℕ} → l ≡ l' → g ≡ g' → ◌≡◌ {A = Count} (record { low = l; high = g }) (record { low = l'; high = g' })
+two_words p q = λ i. record { low = p i; high = q i }
+
+counted_block : (t : ℕ) → count_of (offset (count_of t) + block_bytes) ≡ count_of (t + block_bytes)
+unfolding count_of offset
+counted_block t = two_words (seen_low t block_bytes) (seen_high t block_bytes)
 
 -- a byte more: there is room, or the block was full
 module _ (h₀ msg : List ℕ) (b : ℕ) where
@@ -73,10 +81,10 @@ module _ (h₀ msg : List ℕ) (b : ℕ) where
       let l = length-append msg (b ∷ []) in
       let k : (length (msg ++ b ∷ []) - 1) / block_bytes ≡ (length msg - 1) / block_bytes = omega arith in
       let f : block_bytes * ((length msg - 1) / block_bytes) ≤ length msg = omega arith in
-      rw k (same_state (sym (chain-append h₀ _ msg (b ∷ []) f)) (block_more _ msg b f h) (omega arith) refl refl)
+      rw k (same_state (sym (chain-append h₀ _ msg (b ∷ []) f)) (block_more _ msg b f h) (omega arith) refl)
 
   full : block_bytes ≤ length msg - block_bytes * before msg → put (flushed (state_of h₀ msg)) b ≡ state_of h₀ (msg ++ b ∷ [])
-  unfolding put flushed state_of before count chain
+  unfolding put flushed state_of before count offset count_of chain
   full h =
       let i = (length msg - 1) / block_bytes in
       let l = length-append msg (b ∷ []) in
@@ -90,8 +98,7 @@ module _ (h₀ msg : List ℕ) (b : ℕ) where
       ∙ rw (d, chain-append h₀ i msg (b ∷ []) (omega arith), block-append i msg (b ∷ []) f))
       (block_next (suc i) msg b e)
       (omega arith)
-      (seen_low (block_bytes * i) block_bytes ∙ rw d)
-      (seen_high (block_bytes * i) block_bytes ∙ rw d))
+      (counted_block (block_bytes * i) ∙ rw d))
 
   byte_more : feed_byte (state_of h₀ msg) b ≡ state_of h₀ (msg ++ b ∷ [])
   unfolding feed_byte
@@ -114,7 +121,7 @@ fed_is h₀ msg = ap (λ (s : Engine). feed_all s msg) (nothing h₀) ∙ bytes_
 -- .. and its last compression is the definition's
 last_is : (h₀ msg : List ℕ)
     → F (state_of h₀ msg).h (words (state_of h₀ msg).buffer) (count (state_of h₀ msg) + (state_of h₀ msg).filled) true ≡ final h₀ msg
-unfolding state_of count final before
+unfolding state_of count offset count_of final before
 last_is h₀ msg =
     let i = (length msg - 1) / block_bytes in
     let e : block_bytes * i + (length msg - block_bytes * i) ≡ length msg = omega arith in

@@ -15,8 +15,7 @@ pub struct Engine {
     h: [u64; Compression::STATE],
     buffer: [u8; Compression::BLOCK],
     filled: usize,
-    low: u64,
-    high: u64,
+    count: Count,
 }
 
 impl Engine {
@@ -57,29 +56,26 @@ impl Engine {
             h,
             buffer: [0u8; Compression::BLOCK],
             filled: 0,
-            low: 0,
-            high: 0,
+            count: Count { low: 0, high: 0 },
         }
     }
 
-    // The engine after the bytes of a piece. The fields lie in locals over the loop, so that no turn copies the engine.
+    // The engine after the bytes of a piece. The fields lie in locals over the loop, so that no turn copies the engine;
+    // `h = compress(..)` is two statements, since no proof covers a call's array that goes straight into a variable.
     pub fn feed(self, piece: &[u8]) -> Engine
         ensures { FeedPromise self piece.now result }
     {
         let mut h = self.h;
         let mut buffer = self.buffer;
         let mut filled = self.filled;
-        let mut low = self.low;
-        let mut high = self.high;
+        let mut count = self.count;
         for byte in piece {
             if Compression::BLOCK <= filled {
-                let c = Count { low, high }.add(Compression::BLOCK as u64);
-                let g = compress(h, buffer, c.low, c.high, false);
+                count = count.add(Compression::BLOCK as u64);
+                let g = compress(h, buffer, count.low, count.high, false);
                 h = g;
                 buffer = [0u8; Compression::BLOCK];
                 filled = 0;
-                low = c.low;
-                high = c.high;
             }
             buffer[filled] = *byte;
             filled += 1;
@@ -88,8 +84,7 @@ impl Engine {
             h,
             buffer,
             filled,
-            low,
-            high,
+            count,
         }
     }
 
@@ -97,12 +92,8 @@ impl Engine {
     pub fn end(self) -> [u8; Engine::MAX_OUTPUT]
         ensures { EndPromise self result }
     {
-        let c = Count {
-            low: self.low,
-            high: self.high,
-        }
-        .add(self.filled as u64);
-        let h = compress(self.h, self.buffer, c.low, c.high, true);
+        let count = self.count.add(self.filled as u64);
+        let h = compress(self.h, self.buffer, count.low, count.high, true);
         let mut d = [0u8; Self::MAX_OUTPUT];
         store_words(&h, &mut d);
         d

@@ -21,5 +21,5 @@ returns c =
     record {
       result =
           store_whole c.compress-h.result (replicate max_output 0) (omega arith) c.store_words.ensures.output
-          ∙ ap bytes (compressed s.h s.buffer (count s + s.filled) true c.compress-h.ensures.result c.add-c.ensures.result);
+          ∙ ap bytes (compressed s.h s.buffer (count s + s.filled) true c.compress-h.ensures.result c.add-count.ensures.result);
     }

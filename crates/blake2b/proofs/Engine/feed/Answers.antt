@@ -12,12 +12,12 @@ unfolding put count offset
 loop-byte-preserved c =
     let l = c.loop-byte in
     let j = c.if-filled-ge-BLOCK in
-    let s = state l.h l.buffer l.filled l.low l.high in
-    let s' = state j.h j.buffer j.filled j.low j.high in
+    let s = state l.h l.buffer l.filled l.count in
+    let s' = state j.h j.buffer j.filled j.count in
     let joined : (s'.filled < block_bytes) × ((b : ℕ) → put s' b ≡ feed_byte s b) =
     elim j.branch [
-      | then-filled-ge-BLOCK w ↦ full_turn s s' w.if-filled-ge-BLOCK.true (same_state w.h-is w.buffer-is w.filled-is w.low-is w.high-is ∙ flushed_is s w.compress-g.ensures.result w.add-c.ensures.result)
-      | else-filled-ge-BLOCK w ↦ room_turn s s' w.if-filled-ge-BLOCK.false (same_state w.h-is w.buffer-is w.filled-is w.low-is w.high-is)
+      | then-filled-ge-BLOCK w ↦ full_turn s s' w.if-filled-ge-BLOCK.true (same_state w.h-is w.buffer-is w.filled-is w.count-is ∙ flushed_is s w.compress-g.ensures.result w.add-count.ensures.result)
+      | else-filled-ge-BLOCK w ↦ room_turn s s' w.if-filled-ge-BLOCK.false (same_state w.h-is w.buffer-is w.filled-is w.count-is)
     ]
     in
     fed _ _ _ c.args.piece.now l.byte-index (omega arith) (joined.1 _) l.invariant

@@ -7,4 +7,4 @@ use Rattle.blake2b.proofs.Engine.feed.Given as goal
 
 abbrev pub invariant-loop-byte : goal.invariant-loop-byte
 invariant-loop-byte l =
-    feed_all (state l.h l.buffer l.filled l.low l.high) (drop l.byte-index l.piece) ≡ feed_all (state l.initial.h l.initial.buffer l.initial.filled l.initial.low l.initial.high) l.piece
+    feed_all (state l.h l.buffer l.filled l.count) (drop l.byte-index l.piece) ≡ feed_all (state l.initial.h l.initial.buffer l.initial.filled l.initial.count) l.piece
