@@ -1,3 +1,4 @@
 pub mod Feeding
 pub mod Product
 pub mod Settled
+pub mod Vectors

@@ -39,3 +39,11 @@ digest_bytes = 32
 
 unfoldable pub digest : List ℕ → List ℕ
 digest w = long digest_bytes (bytes w)
+
+-- z ^ z << n, where the shift wraps at 64 bits
+abbrev pub raised : ℕ → ℕ → ℕ
+raised n z = bit_xor z (z * 2 ^ n % 2 ^ 64)
+
+-- Marsaglia's xorshift of 64 bits, by 13, 7 and 17
+unfoldable pub xorshift : ℕ → ℕ
+xorshift x = raised 17 (shifted 7 (raised 13 x))

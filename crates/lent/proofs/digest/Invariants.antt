@@ -1,14 +1,9 @@
 -- `lent::digest` meets its contract. The invariant: the bytes that are left lead to the same state as all of them. Assumes nothing.
-use Rattle.std.proofs.Common.{◌≡◌, ◌-◌, ◌≤◌, ◌++◌, length, drop}
-use Rattle.word.specs.Word.{to_le, bytes}
-use Rattle.blake2b.specs.Blake2b.{initial}
-use Rattle.blake2b.specs.Stream.{fresh, feed_all}
-use Rattle.lent.specs.Lent.{digest_bytes}
+use Rattle.std.proofs.Common.{◌≡◌, drop}
+use Rattle.word.specs.Word.{bytes}
+use Rattle.blake2b.specs.Stream.{feed_all}
+use Rattle.lent.proofs.Feeding.{whole}
 use Rattle.lent.proofs.digest.Given as goal
 
-abbrev pub invariant-loop-i : goal.invariant-loop-i
-invariant-loop-i l =
-    (l.i ≤ length l.words) × (feed_all l.s (bytes (drop l.i l.words)) ≡ feed_all (fresh (initial digest_bytes)) (to_le 4 digest_bytes ++ bytes l.words))
-
-abbrev pub decreases-loop-i : goal.decreases-loop-i
-decreases-loop-i l = length l.words - l.i
+abbrev pub invariant-loop-word : goal.invariant-loop-word
+invariant-loop-word l = feed_all l.s (bytes (drop l.word-index l.words)) ≡ whole l.words

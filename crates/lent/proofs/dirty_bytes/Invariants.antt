@@ -1,11 +1,7 @@
 -- `lent::dirty_bytes` meets its contract: the loop fills the table byte by byte. Assumes nothing.
-use Rattle.std.proofs.Common.{◌≡◌, ℕ, ◌-◌, ◌%◌, ◌<◌, ◌≤◌, length, get_or}
+use Rattle.std.proofs.Common.{◌≡◌, ℕ, ◌%◌, ◌<◌, get_or}
 use Rattle.lent.specs.Lent.{drawn}
 use Rattle.lent.proofs.dirty_bytes.Given as goal
 
 abbrev pub invariant-loop-i : goal.invariant-loop-i
-invariant-loop-i l =
-    (l.i ≤ length l.bytes) × (length l.bytes ≡ length l.initial.bytes) × ((j : ℕ) → j < l.i → get_or l.bytes j 0 ≡ drawn l.seed j % 256)
-
-abbrev pub decreases-loop-i : goal.decreases-loop-i
-decreases-loop-i l = length l.initial.bytes - l.i
+invariant-loop-i l = (j : ℕ) → j < l.i → get_or l.bytes j 0 ≡ drawn l.seed j % 256

@@ -1,5 +1,5 @@
 -- `lent::draw` meets its contract: the state after so many steps, mixed. Assumes nothing.
-use Rattle.std.proofs.Common.{◌+◌, ap, ◌∙◌, eq-eqb, ne_eqb}
+use Rattle.std.proofs.Common.{◌+◌, refl, ap, ◌∙◌, eq-eqb, ne_eqb}
 use Rattle.lent.specs.Lent.{drawn, mixed}
 use Rattle.lent.proofs.Product.{stepped}
 use Rattle.lent.proofs.draw.Goals as goal
@@ -12,5 +12,4 @@ pub returns : goal.returns
 unfolding drawn
 returns c =
     let a = c.args in
-    rw (ne_eqb a.seed 0 c.if-seed-eq0.false)
-    (c.mix.ensures ∙ ap mixed (stepped a.seed (a.i + 1) c.wrapping_add_u64.ensures.value c.wrapping_mul-steps.ensures c.wrapping_add_u64-2.ensures.value))
+    rw (ne_eqb a.seed 0 c.if-seed-eq0.false) (c.mix.ensures ∙ ap mixed (stepped a.seed (a.i + 1) refl refl refl))
