@@ -2,8 +2,8 @@
 
 #![tactic(auto)]
 
-ghost use Rattle.std.specs.Prelude.{◌*◌, ◌<◌, length, get_or, ◌≡◌};
-ghost use Rattle.hex_text.specs.Hex.{digit_of, hex_digits};
+ghost use Rattle.std.specs.Prelude.{◌<◌, ◌≡◌};
+ghost use Rattle.hex_text.specs.Hex.{digit_of};
 ghost use Rattle.hex_text.specs.Promises.{DigitsPromise, WritePromise};
 
 // The digit of a number under 16.
@@ -21,15 +21,6 @@ pub fn digits(b: u8) -> [u8; 2]
     [digit(b / 16), digit(b % 16)]
 }
 
-// Digit k of the bytes.
-fn digit_at(bytes: &[u8], k: usize) -> u8
-    requires { k < 2 * length bytes.now }
-    ensures { result ≡ get_or (hex_digits bytes.now) k 0 }
-{
-    let pair = digits(bytes[k / 2]);
-    pair[k % 2]
-}
-
 // The digits of the bytes, at the start of the text; how many they are. A text that has no room for them is left alone: 0.
 pub fn write(bytes: &[u8], text: &mut [u8]) -> usize
     ensures { WritePromise bytes.now text.old result text.new }
@@ -37,11 +28,9 @@ pub fn write(bytes: &[u8], text: &mut [u8]) -> usize
     if text.len() / 2 < bytes.len() {
         return 0;
     }
-    let count = 2 * bytes.len();
-    let mut k = 0;
-    while k < count {
-        text[k] = digit_at(bytes, k);
-        k += 1;
+    for (k, byte) in bytes.iter().enumerate() {
+        let pair = digits(*byte);
+        text[2 * k..2 * k + 2].copy_from_slice(&pair);
     }
-    count
+    2 * bytes.len()
 }
