@@ -22,6 +22,7 @@ pub fn digits(b: u8) -> [u8; 2]
 }
 
 // The digits of the bytes, at the start of the text; how many they are. A text that has no room for them is left alone: 0.
+#[tactic(auto, using(crate::proofs::Text::one_more), unfolding(crate::specs::Hex::hex_digits))]
 pub fn write(bytes: &[u8], text: &mut [u8]) -> usize
     ensures { WritePromise bytes.now text.old result text.new }
 {
