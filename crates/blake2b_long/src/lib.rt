@@ -4,29 +4,22 @@
 
 ghost use Rattle.std.specs.Prelude.{◌≡◌, ◌+◌, ◌≤◌, min, length};
 ghost use Rattle.std.proofs.Math.Seq.{paste};
-ghost use Rattle.word.specs.Word.{bytes};
-ghost use Rattle.blake2b.specs.Blake2b.{max_output, initial, final};
+ghost use Rattle.blake2b.specs.Blake2b.{max_output, initial};
+ghost use Rattle.blake2b.specs.Stream.{fresh};
 ghost use Rattle.blake2b_long.specs.Promises.{LongPromise};
 
 use answer::{Refusal, check_length};
 use blake2b::Engine;
-use word::{MAX_LENGTH, to_le32};
+use word::MAX_LENGTH;
 
 // The bytes of a piece that is not the last: half of a hash.
 const HALF_HASH: usize = Engine::MAX_OUTPUT / 2;
 
-// The length of the hash for the next piece, where n bytes are left.
-fn hash_length(n: usize) -> usize
-    ensures { result ≡ min n max_output }
+// An engine for the hash that the next piece comes from, where n bytes are left.
+fn begin(n: usize) -> Engine
+    ensures { result ≡ fresh (initial (min n max_output)) }
 {
-    n.min(Engine::MAX_OUTPUT)
-}
-
-// The 64 bytes that a hash of v has, for an output of n bytes.
-fn hash_of(v: [u8; Engine::MAX_OUTPUT], n: usize) -> [u8; Engine::MAX_OUTPUT]
-    ensures { result ≡ bytes (final (initial n) v) }
-{
-    Engine::begin(Engine::initial(n)).feed(&v).end()
+    Engine::begin(Engine::initial(n.min(Engine::MAX_OUTPUT)))
 }
 
 // The first n bytes of v go to out, from at on.
@@ -43,18 +36,16 @@ pub fn blake2b_long(input: &[u8], out: &mut [u8]) -> Result<(), Refusal>
 {
     let n = out.len();
     check_length(1, MAX_LENGTH, n)?;
-    let count = to_le32(n as u32);
-    let mut v = Engine::begin(Engine::initial(hash_length(n)))
-        .feed(&count)
-        .feed(input)
-        .end();
+    let count = (n as u32).to_le_bytes();
+    let mut s = begin(n).feed(&count).feed(input);
     let mut at = 0;
+    // No `for`: the last piece begins where the loop ends.
     while Engine::MAX_OUTPUT < n - at {
+        let v = s.end();
         put(v, HALF_HASH, out, at);
         at += HALF_HASH;
-        let w = hash_of(v, hash_length(n - at));
-        v = w;
+        s = begin(n - at).feed(&v);
     }
-    put(v, n - at, out, at);
+    put(s.end(), n - at, out, at);
     Ok(())
 }
