@@ -70,6 +70,13 @@ lent_fact P words e = go (eqb (first (rows P)) 0) (too_little block_words P word
 pub has_true : (words b : ℕ) → Has words b → has words b ≡ true
 has_true words b h = lt-ltb b (words / block_words) (omega arith)
 
+-- and so is a block of a lane
+pub there : (P : Params) (words l c : ℕ) → Lent P words → l < P.lanes → c < lane_length P → has words (index (segment P) l c) ≡ true
+there P words l c given hl hc = has_true words (index (segment P) l c) (room given l c hl hc)
+
+pub lane_long : (P : Params) → first (rows P) ≡ 0 → 8 ≤ lane_length P
+lane_long P h = omega (arith, params.two (params.params_within P h))
+
 pub has_fact : (words b : ℕ) → b < words / block_words → Has words b
 has_fact words b h = omega arith
 

@@ -4,6 +4,7 @@ use mathlib.Core.Logic.{◌≢◌, ⊎_elim}
 use mathlib.Core.List.{List}
 use Prim.Native.Nat.{ℕ, zero, suc, ◌+◌, ◌*◌, ◌/◌, ◌≤◌, ◌<◌}
 use native.Mathlib.Nat.{eq-or-lt_of_le}
+use native.Mathlib.Numerals.{add-one}
 use native.Mathlib.Omega.{arith}
 use lib.ListN.{length, get_or}
 use Rattle.word.proofs.Bytes.{length-words_of}
@@ -26,6 +27,14 @@ first_length h l b = length-words_of block_words _
 pub start_last : (h : List ℕ) (n s : ℕ) (w : List ℕ) → start_memory h (suc n) s w ≡ start_lane h s n (start_memory h n s w)
 unfolding start_memory
 start_last h n s w = loop_last-zero n (λ l. start_lane h s l) w
+
+-- the same as a loop counts: no lane yet, and one lane more
+pub start_zero : (h : List ℕ) (s : ℕ) (w : List ℕ) → start_memory h 0 s w ≡ w
+unfolding start_memory
+start_zero h s w = refl
+
+pub start_more : (h : List ℕ) (n s : ℕ) (w : List ℕ) → start_memory h (n + 1) s w ≡ start_lane h s n (start_memory h n s w)
+start_more h n s w = ap (λ (m : ℕ). start_memory h m s w) (add-one n) ∙ start_last h n s w
 
 -- memory that holds p lanes of s blocks a segment
 module _ (h : List ℕ) (p s : ℕ) (two : 2 ≤ s) where

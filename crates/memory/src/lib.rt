@@ -18,45 +18,38 @@ use params::Params;
 use position::{BlockNumber, LaneNumber};
 
 // Whether rows 1 to 8 accept the parameters and so many words hold all their blocks.
+#[tactic(auto, using(std::proofs::lemmas::Bool::Decides::nat_tests), unfolding(crate::specs::Lent::lent))]
 pub fn is_lent(params: Params, words: usize) -> bool
     ensures { IsLentPromise params words result }
 {
-    (params.check().number() == 0) & !too_little(WORDS, params, words)
+    params.check().number() == 0 && !too_little(WORDS, params, words)
 }
 
 // Block b of the words; zeros if they have no such block.
+#[tactic(auto, using(crate::proofs::Memory::chunk_block), unfolding(crate::specs::Memory::block))]
 pub fn read_block(words: &[u64], b: usize) -> Block
     ensures { ReadBlockPromise words.now b result }
 {
-    if words.len() / Block::WORDS <= b {
-        return Block::new();
+    let (blocks, _) = words.as_chunks::<{ Block::WORDS }>();
+    match blocks.get(b) {
+        Some(words) => Block { words: *words },
+        None => Block::new(),
     }
-    let mut x = [0; Block::WORDS];
-    let first = Block::WORDS * b;
-    let mut i = 0;
-    while i < Block::WORDS {
-        x[i] = words[first + i];
-        i += 1;
-    }
-    Block { words: x }
 }
 
 // The words of x for those of block b, and every other word stays; all stay if there is no such block.
+#[tactic(auto, unfolding(crate::specs::Memory::put))]
 pub fn write_block(words: &mut [u64], b: usize, x: Block)
     ensures { WriteBlockPromise words.old b x words.new }
 {
-    if words.len() / Block::WORDS <= b {
-        return;
-    }
-    let first = Block::WORDS * b;
-    let mut at = 0;
-    while at < Block::WORDS {
-        words[first + at] = x.words[at];
-        at += 1;
+    if b < words.len() / Block::WORDS {
+        let first = Block::WORDS * b;
+        words[first..first + Block::WORDS].copy_from_slice(&x.words);
     }
 }
 
 // Blocks 0 and 1 of a lane written; every other block stays.
+#[tactic(auto, using(crate::proofs::Lent::there, crate::proofs::Lent::lane_long), unfolding(crate::specs::Start::start_lane))]
 fn start_lane(words: &mut [u64], params: Params, h: [u8; Engine::MAX_OUTPUT], lane: LaneNumber)
     requires { Lent params (length words.old) × (lane.0 < params.lanes) }
     ensures { words.new ≡ start_lane h (segment params) lane.0 words.old }
@@ -73,40 +66,37 @@ fn start_lane(words: &mut [u64], params: Params, h: [u8; Engine::MAX_OUTPUT], la
 }
 
 // Blocks 0 and 1 of every lane written, and every other block stays; all stay if the words are not lent for these parameters.
+#[tactic(auto, using(crate::proofs::Lent::lent_fact, crate::proofs::StartMemory::start_zero, crate::proofs::StartMemory::start_more))]
 pub fn first_blocks(words: &mut [u64], params: Params, h: [u8; Engine::MAX_OUTPUT])
     ensures { FirstBlocksPromise words.old params h words.new }
 {
     if !is_lent(params, words.len()) {
         return;
     }
-    let lanes = params.lanes;
-    let mut next = 0;
-    while next < lanes {
-        start_lane(words, params, h, LaneNumber(next));
-        next += 1;
+    for lane in 0..params.lanes {
+        start_lane(words, params, h, LaneNumber(lane));
     }
 }
 
 // The XOR of every lane's last block.
+#[tactic(auto, using(crate::proofs::LastBlocks::last_zero, crate::proofs::LastBlocks::last_more, crate::proofs::Lent::there, crate::proofs::Lent::lane_long))]
 fn last_blocks(words: &[u64], params: Params) -> Block
     requires { Lent params (length words.now) }
     ensures { result.words ≡ last_blocks params.lanes (segment params) words.now }
 {
     let q = params.lane_length();
     let last = BlockNumber(q - 1);
-    let lanes = params.lanes;
     let mut x = Block::new();
-    let mut lane = 0;
-    while lane < lanes {
+    for lane in 0..params.lanes {
         let b = last.in_memory(LaneNumber(lane), q);
         x = Block::xor(x, read_block(words, b));
-        lane += 1;
     }
     x
 }
 
 // The tag of a filled memory: the variable-length hash of that XOR, as many bytes as out has. Out stays if the words are not lent for these
 // parameters, or if no hash is so long.
+#[tactic(auto, using(crate::proofs::Lent::lent_fact), unfolding(crate::specs::Tag::tag_of))]
 pub fn write_tag(words: &[u64], params: Params, out: &mut [u8])
     ensures { WriteTagPromise words.now params out.old out.new }
 {
