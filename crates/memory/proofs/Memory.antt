@@ -1,16 +1,14 @@
--- A block as a chunk of the words; what reading a block finds after another was put; two puts at different blocks can be swapped. Assumes nothing.
+-- What reading a block finds after another was put, and that two puts at different blocks can be swapped. Assumes nothing.
 use mathlib.Core.Path.{◌≡◌, refl, sym, ap, ◌∙◌, subst}
 use mathlib.Core.Logic.{◌≢◌}
 use mathlib.Core.Bool.{Bool, true, false, cond}
 use mathlib.Core.List.{List, ◌++◌}
-use Prim.Native.Nat.{ℕ, zero, suc, ◌+◌, ◌-◌, ◌*◌, ◌/◌, ◌%◌, ◌≤◌, ◌<◌}
+use Prim.Native.Nat.{ℕ, ◌+◌, ◌-◌, ◌*◌, ◌/◌, ◌%◌, ◌≤◌, ◌<◌}
 use native.Mathlib.Omega.{arith}
 use lib.Dec.{ltb, eqb}
 use lib.ListN.{length, get_or, take, drop, length-append, length-take, length-drop, get_or-append}
 use lib.Seq.{get_or-append-add, get_or-take, get_or-drop, ext_get_or, length-take-le}
 use borrow.Author.Tests.{ltb-true, ltb-false, eqb-true, eqb-false, ne_eqb}
-use Rattle.std.specs.Simd.{first_chunks}
-use Rattle.std.proofs.lemmas.List.{drop-drop}
 use Rattle.block.specs.Block.{block_words}
 use Rattle.memory.specs.Memory.{block, put}
 
@@ -71,15 +69,6 @@ length-block b w h = simp (length-take, length-drop) (omega arith)
 pub block_at : (b : ℕ) (w : List ℕ) (i : ℕ) → i < block_words → get_or (block b w) i 0 ≡ get_or w (block_words * b + i) 0
 unfolding block
 block_at b w i h = get_or-take block_words (drop (block_words * b) w) i 0 h ∙ get_or-drop (block_words * b) w i 0
-
--- a block as a chunk of the words
-pub chunk_block : (k b : ℕ) (w : List ℕ) (d : List ℕ) → b < k → get_or (first_chunks block_words k w) b d ≡ take block_words (drop (block_words * b) w)
-chunk_block zero b w d h = absurd (omega arith)
-chunk_block (suc k) zero w d h = refl
-chunk_block (suc k) (suc b) w d h =
-    let at : block_words + block_words * b ≡ block_words * suc b = omega arith in
-    chunk_block k b (drop block_words w) d (omega arith)
-    ∙ ap (take block_words) (drop-drop (block_words * b) block_words w ∙ ap (λ (n : ℕ). drop n w) at)
 
 -- the block that was put
 pub block-put_same : (b : ℕ) (x w : List ℕ) → block_words * b + block_words ≤ length w → length x ≡ block_words → block b (put b x w) ≡ x

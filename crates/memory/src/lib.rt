@@ -26,15 +26,17 @@ pub fn is_lent(params: Params, words: usize) -> bool
 }
 
 // Block b of the words; zeros if they have no such block.
-#[tactic(auto, using(crate::proofs::Memory::chunk_block), unfolding(crate::specs::Memory::block))]
+#[tactic(auto, unfolding(crate::specs::Memory::block))]
 pub fn read_block(words: &[u64], b: usize) -> Block
     ensures { ReadBlockPromise words.now b result }
 {
-    let (blocks, _) = words.as_chunks::<{ Block::WORDS }>();
-    match blocks.get(b) {
-        Some(words) => Block { words: *words },
-        None => Block::new(),
+    if words.len() / Block::WORDS <= b {
+        return Block::new();
     }
+    let first = Block::WORDS * b;
+    let mut read = [0; Block::WORDS];
+    read.copy_from_slice(&words[first..first + Block::WORDS]);
+    Block { words: read }
 }
 
 // The words of x for those of block b, and every other word stays; all stay if there is no such block.
