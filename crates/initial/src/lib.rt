@@ -10,24 +10,26 @@ ghost use Rattle.initial.specs.Promises.{InitialHashPromise, FirstWordsPromise};
 use blake2b::Engine;
 use blake2b_long::blake2b_long;
 use block::Block;
-use params::Params;
+use params::{Inputs, Params};
 use position::{BlockNumber, LaneNumber};
-use word::{HALF, to_le32};
+use word::HALF;
 
-// The bytes of a number, and of what a first block is hashed from.
+// The bytes of a number.
 const NUMBER: usize = 4;
 
 // The numbers of 4 bytes.
 const COUNTS: usize = HALF as usize;
 
-const FIRST_INPUT: usize = Engine::MAX_OUTPUT + 2 * NUMBER;
+// Where the lane's number stands in what a first block is hashed from, and how long that is.
+const LANE_AT: usize = Engine::MAX_OUTPUT + NUMBER;
+
+const FIRST_INPUT: usize = LANE_AT + NUMBER;
 
 // The state after a number, 4 bytes little-endian.
 fn feed_number(state: Engine, n: u32) -> Engine
     ensures { result ≡ feed_all state (le32 n) }
 {
-    let bytes = to_le32(n);
-    state.feed(&bytes)
+    state.feed(&n.to_le_bytes())
 }
 
 // The state after a count, of which 4 bytes are kept.
@@ -41,41 +43,31 @@ fn feed_count(state: Engine, n: usize) -> Engine
 fn feed_counted(state: Engine, bytes: &[u8]) -> Engine
     ensures { result ≡ feed_all state (counted bytes.now) }
 {
-    let s = feed_count(state, bytes.len());
-    s.feed(bytes)
+    feed_count(state, bytes.len()).feed(bytes)
 }
 
 // The state after the numbers: lanes, tag length, memory cost, passes, version, algorithm.
 fn feed_header(state: Engine, params: Params, tag: usize) -> Engine
     ensures { result ≡ feed_all state (header params tag) }
 {
-    let memory = params.memory;
     let s = feed_number(state, params.lanes);
     let s = feed_count(s, tag);
-    let s = feed_number(s, memory);
+    let s = feed_number(s, params.memory);
     let s = feed_number(s, params.passes);
     let s = feed_number(s, params.version);
     feed_number(s, params.algorithm)
 }
 
 // The initial hash: the numbers, then count and bytes of each input.
-pub fn initial_hash(
-    params: Params,
-    tag: usize,
-    password: &[u8],
-    salt: &[u8],
-    secret: &[u8],
-    ad: &[u8],
-) -> [u8; Engine::MAX_OUTPUT]
-    ensures { InitialHashPromise params tag password.now salt.now secret.now ad.now result }
+pub fn initial_hash(params: Params, tag: usize, inputs: Inputs) -> [u8; Engine::MAX_OUTPUT]
+    ensures { InitialHashPromise params tag inputs.entry.password.now inputs.entry.salt.now inputs.entry.secret.now inputs.entry.ad.now result }
 {
     let s = Engine::begin(Engine::initial(Engine::MAX_OUTPUT));
     let s = feed_header(s, params, tag);
-    let s = feed_counted(s, password);
-    let s = feed_counted(s, salt);
-    let s = feed_counted(s, secret);
-    let s = feed_counted(s, ad);
-    s.end()
+    let s = feed_counted(s, inputs.password);
+    let s = feed_counted(s, inputs.salt);
+    let s = feed_counted(s, inputs.secret);
+    feed_counted(s, inputs.ad).end()
 }
 
 // The bytes of a piece for those of out from at on; every other byte stays.
@@ -98,11 +90,9 @@ fn first_input(
     ensures { result ≡ h ++ le32 block.0 ++ le32 lane.0 }
 {
     let mut input = [0; FIRST_INPUT];
-    let of_block = to_le32(block.0);
-    let of_lane = to_le32(lane.0);
     lay(&mut input, 0, &h);
-    lay(&mut input, Engine::MAX_OUTPUT, &of_block);
-    lay(&mut input, Engine::MAX_OUTPUT + NUMBER, &of_lane);
+    lay(&mut input, Engine::MAX_OUTPUT, &block.0.to_le_bytes());
+    lay(&mut input, LANE_AT, &lane.0.to_le_bytes());
     input
 }
 
@@ -112,6 +102,7 @@ pub fn first_words(h: [u8; Engine::MAX_OUTPUT], lane: LaneNumber, block: BlockNu
 {
     let input = first_input(h, lane, block);
     let mut bytes = [0; Block::SIZE];
-    blake2b_long(&input, &mut bytes);
+    // No input is refused: the length is a block's.
+    let _ = blake2b_long(&input, &mut bytes);
     Block::from_bytes(bytes)
 }

@@ -22,7 +22,7 @@ use position::{BlockNumber, LaneNumber};
 pub fn is_lent(params: Params, words: usize) -> bool
     ensures { IsLentPromise params words result }
 {
-    params.check().number() == 0 && !too_little(WORDS, params, words)
+    params.check().is_ok() && !too_little(WORDS, params, words)
 }
 
 // Block b of the words; zeros if they have no such block.
@@ -106,5 +106,5 @@ pub fn write_tag(words: &[u64], params: Params, out: &mut [u8])
         return;
     }
     let bytes = last_blocks(words, params).to_bytes();
-    blake2b_long(&bytes, out);
+    let _ = blake2b_long(&bytes, out);
 }

@@ -3,4 +3,4 @@ use Rattle.initial.proofs.HashInput.{and_then}
 use Rattle.initial.proofs.feed_counted.Goals as goal
 
 pub returns : goal.returns
-returns c = and_then _ _ _ c.feed_count-s.ensures c.feed.ensures.result
+returns c = and_then _ _ _ c.feed_count.ensures c.feed.ensures.result
