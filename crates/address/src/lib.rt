@@ -6,7 +6,7 @@ ghost use Rattle.address.specs.Promises.{AddressedPromise, AddressBlockPromise, 
 
 use block::Block;
 use params::Params;
-use position::LaneNumber;
+use position::Segment;
 
 // Argon2id takes its random words from address blocks in so many slices, of pass 0.
 const ADDRESSED_SLICES: u32 = 2;
@@ -15,18 +15,18 @@ const ADDRESSED_SLICES: u32 = 2;
 pub fn is_addressed(params: Params, pass: u32, slice: u32) -> bool
     ensures { AddressedPromise params pass slice result }
 {
-    (params.algorithm == Params::I)
-        | ((params.algorithm == Params::ID) & (pass == 0) & (slice < ADDRESSED_SLICES))
+    params.algorithm == Params::I
+        || params.algorithm == Params::ID && pass == 0 && slice < ADDRESSED_SLICES
 }
 
 // The address block with this counter: the compression, twice with a zero block, of the segment's numbers.
-pub fn address_block(params: Params, pass: u32, slice: u32, lane: LaneNumber, counter: u32) -> Block
-    ensures { AddressBlockPromise params pass slice lane counter result }
+pub fn address_block(params: Params, segment: Segment, counter: u32) -> Block
+    ensures { AddressBlockPromise params segment.pass segment.slice segment.lane counter result }
 {
     let mut input = [0; Block::WORDS];
-    input[0] = pass as u64;
-    input[1] = lane.0 as u64;
-    input[2] = slice as u64;
+    input[0] = segment.pass as u64;
+    input[1] = segment.lane.0 as u64;
+    input[2] = segment.slice as u64;
     input[3] = params.block_count() as u64;
     input[4] = params.passes as u64;
     input[5] = params.algorithm as u64;
