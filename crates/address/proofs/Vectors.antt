@@ -8,13 +8,13 @@ use Rattle.word.specs.Table.{table}
 use Rattle.word.specs.Word.{rotr}
 use Rattle.block.specs.Block.{multiply_add, quarter, quarter_at, permutation, registers, rows, columns, xors, compress}
 use Rattle.params.specs.Limits.{i, v13, segment_length}
-use Rattle.params.specs.declared.Configured.TheVariants.{Absent}
+use Rattle.std.specs.Prelude.{None}
 use Rattle.params.specs.declared.Params.{Params}
 use Rattle.address.specs.Address.{address_block}
 
 -- Argon2i, m = 47, p = 4, t = 7: m' = 32
 abbrev numbers : Params
-numbers = record { algorithm = i; version = v13; memory = 47; passes = 7; lanes = 4; configured = Absent }
+numbers = record { algorithm = i; version = v13; memory = 47; passes = 7; lanes = 4; configured = None }
 
 -- pass 4, slice 3, lane 2, counter 5
 abbrev some_block : List ℕ
