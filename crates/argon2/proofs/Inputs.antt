@@ -10,16 +10,15 @@ use Rattle.answer.specs.Answers.{first}
 use Rattle.answer.proofs.Rows.{Passed, passed, accepted, passed_front, passed_back}
 use Rattle.block.specs.Block.{block_words}
 use Rattle.params.specs.Limits.{rows, blocks, min_tag, under_min_tag}
-use Rattle.params.specs.declared.Configured.{Configured}
-use Rattle.params.specs.declared.Configured.TheVariants.{Absent, Length}
+use Rattle.std.specs.Prelude.{Option, None, Some}
 use Rattle.params.specs.declared.Params.{Params}
 use Rattle.memory.specs.Lent.{Lent}
 use Rattle.checks.specs.Rows.{min_salt, plain, least_tag, output_rows, extra_rows, input_rows, start_rows, fill_rows}
 
 -- a length that rows 8 and 11 accept is not 0
-some_bytes : (g : Configured) (n : ℕ) → under_min_tag g ≡ false → ltb n (least_tag g) ≡ false → 1 ≤ n
-some_bytes Absent n a b = omega (arith, ltb-false n min_tag b)
-some_bytes (Length k) n a b = omega (arith, ltb-false k min_tag a, ltb-false n k b)
+some_bytes : (g : Option ℕ) (n : ℕ) → under_min_tag g ≡ false → ltb n (least_tag g) ≡ false → 1 ≤ n
+some_bytes None n a b = omega (arith, ltb-false n min_tag b)
+some_bytes (Some k) n a b = omega (arith, ltb-false k min_tag a, ltb-false n k b)
 
 pub tag_some : (P : Params) (n : ℕ) → first (rows P) ≡ 0 → first (output_rows P.configured n) ≡ 0 → 1 ≤ n
 tag_some P n a b =

@@ -5,9 +5,10 @@
 ghost use Rattle.crabuledda.specs.Promises.{CrabuleddaHashPromise, CrabuleddaFillMemoryPromise, CrabuleddaLongPromise};
 ghost use Rattle.params.specs.Limits.{from_numbers};
 
+use answer::number;
 use argon2::{fill_memory, hash_password_into_with_memory};
 use blake2b_long::blake2b_long;
-use params::Params;
+use params::{Inputs, Params};
 
 // The whole hash; the answer's number. A configured length of 0 stands for none.
 #[unsafe(no_mangle)]
@@ -29,7 +30,13 @@ pub extern "C" fn crabuledda_hash(
         secret.now ad.now words.old out.old result words.new out.new }
 {
     let params = Params::from_numbers(algorithm, version, memory, passes, lanes, configured);
-    hash_password_into_with_memory(params, password, salt, secret, ad, words, out).number()
+    let inputs = Inputs {
+        password,
+        salt,
+        secret,
+        ad,
+    };
+    number(hash_password_into_with_memory(params, inputs, words, out))
 }
 
 // The filling alone; the answer's number. A configured length of 0 stands for none.
@@ -51,7 +58,13 @@ pub extern "C" fn crabuledda_fill_memory(
         secret.now ad.now words.old result words.new }
 {
     let params = Params::from_numbers(algorithm, version, memory, passes, lanes, configured);
-    fill_memory(params, password, salt, secret, ad, words).number()
+    let inputs = Inputs {
+        password,
+        salt,
+        secret,
+        ad,
+    };
+    number(fill_memory(params, inputs, words))
 }
 
 // The variable-length hash, of as many bytes as out has; the answer's number.
@@ -59,5 +72,5 @@ pub extern "C" fn crabuledda_fill_memory(
 pub extern "C" fn crabuledda_blake2b_long(input: &[u8], out: &mut [u8]) -> u32
     ensures { CrabuleddaLongPromise input.now out.old result out.new }
 {
-    blake2b_long(input, out).number()
+    number(blake2b_long(input, out))
 }

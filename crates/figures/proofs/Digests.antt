@@ -8,13 +8,13 @@ use Rattle.blake2b.specs.Blake2b.{pad, block, parameter, initial, chain, before,
 use Rattle.word.specs.Table.{table}
 use Rattle.word.specs.Word.{rotr, number_at, words_of}
 use Rattle.params.specs.Limits.{d, i, id, v13}
-use Rattle.params.specs.declared.Configured.TheVariants.{Absent}
+use Rattle.std.specs.Prelude.{None}
 use Rattle.params.specs.declared.Params.{Params}
 use Rattle.initial.specs.Initial.{header, hash_input, initial_hash}
 
 -- 32 KiB, three passes, four lanes
 abbrev params : ℕ → Params
-params algorithm = record { algorithm = algorithm; version = v13; memory = 32; passes = 3; lanes = 4; configured = Absent }
+params algorithm = record { algorithm = algorithm; version = v13; memory = 32; passes = 3; lanes = 4; configured = None }
 
 -- a tag of 32 bytes; password, salt, secret and associated data
 abbrev digest : ℕ → List ℕ

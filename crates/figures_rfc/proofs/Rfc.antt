@@ -13,7 +13,7 @@ use Rattle.blake2b.specs.Blake2b
 use Rattle.blake2b_long.specs.Long.{halves, pieces}
 use Rattle.block.specs.Block.{multiply_add, registers}
 use Rattle.params.specs.Limits.{id, v13, segment_length}
-use Rattle.params.specs.declared.Configured.TheVariants.{Absent}
+use Rattle.std.specs.Prelude.{None}
 use Rattle.params.specs.declared.Params.{Params}
 use Rattle.position.specs.Position.{previous_column, reference_lane, finished_length, area, place, area_start, reference_column}
 use Rattle.initial.specs.Initial.{header, hash_input}
@@ -26,7 +26,7 @@ use Rattle.figures_quick.proofs.Whole.{address_of, word_of, new_of, fill_of, fil
 use Rattle.figures_rfc.proofs.Blocks.{b0_0_0, b0_0_1, b0_0_2, b0_0_3, b0_0_4, b0_0_5, b0_0_6, b0_0_7, b0_1_0, b0_1_1, b0_1_2, b0_1_3, b0_1_4, b0_1_5, b0_1_6, b0_1_7, b0_2_0, b0_2_1, b0_2_2, b0_2_3, b0_2_4, b0_2_5, b0_2_6, b0_2_7, b0_3_0, b0_3_1, b0_3_2, b0_3_3, b0_3_4, b0_3_5, b0_3_6, b0_3_7, b1_0_0, b1_0_1, b1_0_2, b1_0_3, b1_0_4, b1_0_5, b1_0_6, b1_0_7, b1_1_0, b1_1_1, b1_1_2, b1_1_3, b1_1_4, b1_1_5, b1_1_6, b1_1_7, b1_2_0, b1_2_1, b1_2_2, b1_2_3, b1_2_4, b1_2_5, b1_2_6, b1_2_7, b1_3_0, b1_3_1, b1_3_2, b1_3_3, b1_3_4, b1_3_5, b1_3_6, b1_3_7, b2_0_0, b2_0_1, b2_0_2, b2_0_3, b2_0_4, b2_0_5, b2_0_6, b2_0_7, b2_1_0, b2_1_1, b2_1_2, b2_1_3, b2_1_4, b2_1_5, b2_1_6, b2_1_7, b2_2_0, b2_2_1, b2_2_2, b2_2_3, b2_2_4, b2_2_5, b2_2_6, b2_2_7, b2_3_0, b2_3_1, b2_3_2, b2_3_3, b2_3_4, b2_3_5, b2_3_6, b2_3_7}
 
 abbrev params : Params
-params = record { algorithm = id; version = v13; memory = 32; passes = 3; lanes = 4; configured = Absent }
+params = record { algorithm = id; version = v13; memory = 32; passes = 3; lanes = 4; configured = None }
 
 abbrev password : List ℕ
 password = replicate 32 1

@@ -11,7 +11,7 @@ use Rattle.blake2b_long.specs.Long.{pieces}
 use Rattle.blake2b_long.proofs.Pieces.{direct, just_over, ninety_six, ninety_seven, a_block}
 use Rattle.block.specs.Block.{block_words}
 use Rattle.params.specs.Limits.{d, i, id, v13, segment_length, blocks}
-use Rattle.params.specs.declared.Configured.TheVariants.{Absent}
+use Rattle.std.specs.Prelude.{None}
 use Rattle.params.specs.declared.Params.{Params}
 use Rattle.position.proofs.Cases.{PositionCases}
 use Rattle.position.proofs.Cases.{cases as position-cases}
@@ -28,7 +28,7 @@ use Rattle.turns.proofs.Started.{answered, before}
 -- memory cost m, p lanes, t passes; any algorithm, version 19, no configured length
 abbrev pub with_costs : ℕ → ℕ → ℕ → ℕ → Params
 with_costs algorithm m p t =
-    record { algorithm = algorithm; version = v13; memory = m; passes = t; lanes = p; configured = Absent }
+    record { algorithm = algorithm; version = v13; memory = m; passes = t; lanes = p; configured = None }
 
 -- a start that is accepted: 32 bytes of tag, no password, 8 bytes of salt, just enough memory
 abbrev pub Starts : Params → Type 0

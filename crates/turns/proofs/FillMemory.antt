@@ -11,8 +11,7 @@ use borrow.Author.Tests.{le-ltb, ne_eqb}
 use Rattle.answer.specs.Answers.{first, if_accepted}
 use Rattle.answer.proofs.Rows.{accepted}
 use Rattle.params.specs.Limits.{segment, blocks}
-use Rattle.params.specs.declared.Configured.{Configured}
-use Rattle.params.specs.declared.Configured.TheVariants.{Absent, Length}
+use Rattle.std.specs.Prelude.{Option, None, Some}
 use Rattle.params.specs.declared.Params.{Params}
 use Rattle.checks.specs.Rows.{least_tag, output_rows}
 use Rattle.initial.specs.Initial.{initial_hash}
@@ -28,10 +27,10 @@ use Rattle.turns.proofs.Forgotten.{forgotten}
 use Rattle.turns.proofs.Tag.{rfc, rfc_complete, complete_memory}
 
 -- parameters allow some tag length, the least
-pub some_tag : (g : Configured) → first (output_rows g (least_tag g)) ≡ 0
-some_tag Absent = refl
-some_tag (Length n) =
-    accepted (output_rows (Length n) n) (le-ltb n n (omega arith), (le-ltb n n (omega arith), tt))
+pub some_tag : (g : Option ℕ) → first (output_rows g (least_tag g)) ≡ 0
+some_tag None = refl
+some_tag (Some n) =
+    accepted (output_rows (Some n) n) (le-ltb n n (omega arith), (le-ltb n n (omega arith), tt))
 
 module _ (P : Params) (password salt secret ad : List ℕ) where
   -- start with tag length 0 in its initial hash: its blocks, and the job of a tag length that the parameters allow
