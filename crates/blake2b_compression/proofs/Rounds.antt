@@ -2,13 +2,64 @@
 use Rattle.std.proofs.Common.{◌≡◌, ℕ, zero, suc, ◌+◌, ◌%◌, ◌^◌, ◌<◌, Bool, true, false, ◌&&◌, ltb, List, [], ◌∷◌, length, get_or, set, refl, ap, ◌∙◌, le_of_suc-le-suc, not-suc-le-zero, add-one, mod-lt, arith, lit<, ltb-true}
 use Rattle.word.specs.Table.{table}
 use Rattle.word.specs.Word.{rotr}
-use Rattle.word.proofs.Library.{rotate_right_is_rotr}
+use Rattle.word.proofs.Library.{xor_rotated}
 use Rattle.word.proofs.Rotation.{rotr-lt}
 use Rattle.std.proofs.lemmas.Nat.{xor_lt}
 use Rattle.std.specs.Int.{w64, rotate_right}
 use Rattle.blake2b_compression.specs.Compression.{◌!◌, ◌⊕◌, block_words, R1, R2, R3, R4, SIGMA, row, sum, turn, G, round, mixed}
 
--- ---- the words of a list, each of 64 bits
+-- ---- the lines of G, as the code's stores
+sum_line : (v : List ℕ) (a b x : ℕ) {u : List ℕ} {r s : ℕ} → u ≡ v → r ≡ (u ! a + u ! b) % 2 ^ 64 → s ≡ (r + x) % 2 ^ 64 → set u a s ≡ sum v a b x
+unfolding sum
+sum_line v a b x {u} {r} {s} p q t = ap (set u a) wraps ∙ rw p
+  where
+    wraps : s ≡ (u ! a + u ! b + x) % 2 ^ 64
+    wraps = omega arith
+
+plain_line : (v : List ℕ) (a b : ℕ) {u : List ℕ} {r : ℕ} → u ≡ v → r ≡ (u ! a + u ! b) % 2 ^ 64 → set u a r ≡ sum v a b 0
+unfolding sum
+plain_line v a b {u} {r} p q = ap (set u a) wraps ∙ rw p
+  where
+    wraps : r ≡ (u ! a + u ! b + 0) % 2 ^ 64
+    wraps = omega arith
+
+turn_line : (v : List ℕ) (d a n : ℕ) {u : List ℕ} {r : ℕ} → u ≡ v → r ≡ rotr n (u ! d ⊕ u ! a) → set u d r ≡ turn v d a n
+unfolding turn
+turn_line v d a n {u} p q = ap (set u d) q ∙ rw p
+
+-- G, line by line: v₁ to v₈ are what the array holds after each store
+module _ (v : List ℕ) (a b c d x y : ℕ) where
+  pub eight_lines : {s₁ t₁ t₂ t₃ t₄ s₅ t₅ t₆ t₇ t₈ : ℕ}
+      → (let v₁ = set v a t₁ in
+      let v₂ = set v₁ d t₂ in
+      let v₃ = set v₂ c t₃ in
+      let v₄ = set v₃ b t₄ in
+      let v₅ = set v₄ a t₅ in
+      let v₆ = set v₅ d t₆ in
+      let v₇ = set v₆ c t₇ in
+      s₁ ≡ (v ! a + v ! b) % 2 ^ 64
+      → t₁ ≡ (s₁ + x) % 2 ^ 64
+      → t₂ ≡ rotr R1 (v₁ ! d ⊕ v₁ ! a)
+      → t₃ ≡ (v₂ ! c + v₂ ! d) % 2 ^ 64
+      → t₄ ≡ rotr R2 (v₃ ! b ⊕ v₃ ! c)
+      → s₅ ≡ (v₄ ! a + v₄ ! b) % 2 ^ 64
+      → t₅ ≡ (s₅ + y) % 2 ^ 64
+      → t₆ ≡ rotr R3 (v₅ ! d ⊕ v₅ ! a)
+      → t₇ ≡ (v₆ ! c + v₆ ! d) % 2 ^ 64
+      → t₈ ≡ rotr R4 (v₇ ! b ⊕ v₇ ! c)
+      → set v₇ b t₈ ≡ G v a b c d x y)
+  unfolding G
+  eight_lines p₁ q₁ q₂ q₃ q₄ p₅ q₅ q₆ q₇ q₈ =
+      turn_line _ b c R4
+      (plain_line _ c d
+      (turn_line _ d a R3
+      (sum_line _ a b y
+      (turn_line _ b c R2
+      (plain_line _ c d
+      (turn_line _ d a R1
+      (sum_line v a b x refl p₁ q₁) q₂) q₃) q₄) p₅ q₅) q₆) q₇) q₈
+
+-- ---- the same by std's methods: every word of the list is one of 64 bits
 abbrev pub Words : List ℕ → Type 0
 Words v = (i : ℕ) → v ! i < 2 ^ 64
 
@@ -22,38 +73,15 @@ stored (x ∷ v) (suc k) t w h (suc i) = stored v k t (λ j. w (suc j)) h i
 summed : (v : List ℕ) (k t : ℕ) → Words v → Words (set v k (t % 2 ^ 64))
 summed v k t w = stored v k (t % 2 ^ 64) w (mod-lt t (lit< tt))
 
--- ---- the lines of G, as the code's stores
-sum_line : (v : List ℕ) (a b x : ℕ) {u : List ℕ} → u ≡ v → set u a (((u ! a + u ! b) % 2 ^ 64 + x) % 2 ^ 64) ≡ sum v a b x
-unfolding sum
-sum_line v a b x {u} p = ap (set u a) wraps ∙ rw p
-  where
-    wraps : ((u ! a + u ! b) % 2 ^ 64 + x) % 2 ^ 64 ≡ (u ! a + u ! b + x) % 2 ^ 64
-    wraps = omega arith
-
-plain_line : (v : List ℕ) (a b : ℕ) {u : List ℕ} → u ≡ v → set u a ((u ! a + u ! b) % 2 ^ 64) ≡ sum v a b 0
-unfolding sum
-plain_line v a b {u} p = ap (set u a) more ∙ rw p
-  where
-    more : (u ! a + u ! b) % 2 ^ 64 ≡ (u ! a + u ! b + 0) % 2 ^ 64
-    more = omega arith
-
-turn_line : (v : List ℕ) (d a n : ℕ) {u : List ℕ} {r : ℕ} → u ≡ v → r ≡ rotr n (u ! d ⊕ u ! a) → set u d r ≡ turn v d a n
-unfolding turn
-turn_line v d a n {u} p q = ap (set u d) q ∙ rw p
-
 module _ (u : List ℕ) (d a n : ℕ) (w : Words u) (some : 0 < n) (less : n < 64) {r : ℕ} (e : r ≡ rotate_right w64 (u ! d ⊕ u ! a) n) where
-  fits : u ! d ⊕ u ! a < 2 ^ 64
-  fits = xor_lt 64 (u ! d) (u ! a) (w d) (w a)
-
   turned : r ≡ rotr n (u ! d ⊕ u ! a)
-  turned = e ∙ rotate_right_is_rotr n (u ! d ⊕ u ! a) some less fits
+  turned = e ∙ xor_rotated n (u ! d) (u ! a) some less (w d) (w a)
 
   turned_words : Words (set u d r)
-  turned_words = stored u d r w (rw turned (rotr-lt n (u ! d ⊕ u ! a) (omega arith) fits))
+  turned_words = stored u d r w (rw turned (rotr-lt n (u ! d ⊕ u ! a) (omega arith) (xor_lt 64 (u ! d) (u ! a) (w d) (w a))))
 
--- G, line by line: v₁ to v₇ are what the array holds after each store
 module _ (v : List ℕ) (a b c d x y : ℕ) (w : Words v) where
-  pub eight_lines : {t₂ t₄ t₆ t₈ : ℕ}
+  pub eight_stores : {t₂ t₄ t₆ t₈ : ℕ}
       → (let v₁ = set v a (((v ! a + v ! b) % 2 ^ 64 + x) % 2 ^ 64) in
       let v₂ = set v₁ d t₂ in
       let v₃ = set v₂ c ((v₂ ! c + v₂ ! d) % 2 ^ 64) in
@@ -66,22 +94,15 @@ module _ (v : List ℕ) (a b c d x y : ℕ) (w : Words v) where
       → t₆ ≡ rotate_right w64 (v₅ ! d ⊕ v₅ ! a) R3
       → t₈ ≡ rotate_right w64 (v₇ ! b ⊕ v₇ ! c) R4
       → set v₇ b t₈ ≡ G v a b c d x y)
-  unfolding G
-  eight_lines e₂ e₄ e₆ e₈ =
+  eight_stores e₂ e₄ e₆ e₈ =
       let w₁ = summed v a _ w in
       let w₃ = summed _ c _ (turned_words _ d a R1 w₁ (omega arith) (omega arith) e₂) in
       let w₅ = summed _ a _ (turned_words _ b c R2 w₃ (omega arith) (omega arith) e₄) in
       let w₇ = summed _ c _ (turned_words _ d a R3 w₅ (omega arith) (omega arith) e₆) in
-      turn_line _ b c R4
-      (plain_line _ c d
-      (turn_line _ d a R3
-      (sum_line _ a b y
-      (turn_line _ b c R2
-      (plain_line _ c d
-      (turn_line _ d a R1
-      (sum_line v a b x refl) (turned _ d a R1 w₁ (omega arith) (omega arith) e₂)))
-      (turned _ b c R2 w₃ (omega arith) (omega arith) e₄)))
-      (turned _ d a R3 w₅ (omega arith) (omega arith) e₆)))
+      eight_lines v a b c d x y refl refl
+      (turned _ d a R1 w₁ (omega arith) (omega arith) e₂) refl
+      (turned _ b c R2 w₃ (omega arith) (omega arith) e₄) refl refl
+      (turned _ d a R3 w₅ (omega arith) (omega arith) e₆) refl
       (turned _ b c R4 w₇ (omega arith) (omega arith) e₈)
 
 -- ---- a round, mixing by mixing

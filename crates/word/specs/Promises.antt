@@ -1,13 +1,6 @@
 -- What the public functions of this crate promise.
-use Rattle.std.specs.Prelude.{ℕ, ◌*◌, List, [], ◌∷◌, ◌++◌, ◌≡◌, length, take, drop}
-use Rattle.word.specs.Word.{word_bytes, rotr, from_le, to_le, number_at, words_of, bytes, low_half, high_half}
-
--- rotr32, rotr24, rotr16, rotr63
-pub record RotatePromise (n x r : ℕ) : Type 0 where
-  pub result : r ≡ rotr n x
-
-pub record FromLePromise (a b c d e f g h r : ℕ) : Type 0 where
-  pub result : r ≡ from_le (a ∷ b ∷ c ∷ d ∷ e ∷ f ∷ g ∷ h ∷ [])
+use Rattle.std.specs.Prelude.{ℕ, ◌*◌, List, ◌++◌, ◌≡◌, length, take, drop}
+use Rattle.word.specs.Word.{word_bytes, to_le, number_at, words_of, bytes, low_half, high_half}
 
 -- load32, load
 pub record LoadPromise (n : ℕ) (s : List ℕ) (at r : ℕ) : Type 0 where

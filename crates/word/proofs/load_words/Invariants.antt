@@ -1,13 +1,9 @@
 -- `word::load_words` meets its contract: the loop fills the table word by word. Assumes nothing.
-use Prim.Native.Nat.{ℕ, ◌-◌, ◌*◌, ◌≤◌, ◌<◌}
+use Prim.Native.Nat.{ℕ, ◌*◌, ◌<◌}
 use mathlib.Core.Path.{◌≡◌}
-use lib.ListN.{length, get_or}
+use lib.ListN.{get_or}
 use Rattle.word.specs.Word.{word_bytes, word_at}
 use Rattle.word.proofs.load_words.Given as goal
 
 abbrev pub invariant-loop-n : goal.invariant-loop-n
-invariant-loop-n l =
-    (l.n ≤ length l.words) × (length l.words ≡ length l.initial.words) × ((j : ℕ) → j < l.n → get_or l.words j 0 ≡ word_at l.s (word_bytes * j))
-
-abbrev pub decreases-loop-n : goal.decreases-loop-n
-decreases-loop-n l = length l.initial.words - l.n
+invariant-loop-n l = (j : ℕ) → j < l.n → get_or l.words j 0 ≡ word_at l.s (word_bytes * j)

@@ -1,51 +1,49 @@
 -- `word::store_words` meets its contract. The invariant: the front of the bytes stands in out, before what stood there. Assumes nothing.
-use Prim.Native.Nat.{ℕ, ◌/◌, ◌<◌, ◌≤◌}
-use mathlib.Core.List.{◌++◌}
-use mathlib.Core.Path.{refl, sym, ap, ◌∙◌}
+use Prim.Native.Nat.{ℕ, ◌/◌, ◌%◌, ◌<◌, ◌≤◌}
+use mathlib.Core.List.{List, ◌++◌}
+use mathlib.Core.Path.{◌≡◌, sym, ap, ◌∙◌}
+use Rattle.std.proofs.Common.{rules}
+use Rattle.std.proofs.lemmas.List.{set-get_or}
 use native.Mathlib.Omega.{arith}
-use borrow.Author.Tests.{ltb-true, ltb-false}
-use lib.ListN.{length, take, drop, length-set}
-use Rattle.word.specs.Word.{word_bytes, bytes}
+use lib.ListN.{length, take, drop, get_or}
+use Rattle.word.specs.Word.{word_bytes, to_le, bytes}
 use Rattle.word.proofs.Bytes.{length-bytes, bytes_at, stored_more, store_full, store_out}
+use Rattle.word.proofs.Library.{to_le_bytes_8}
 use Rattle.word.proofs.store_words.Goals as goal
-
-pub loop-i-init : goal.loop-i-init
-loop-i-init c = (omega arith, omega arith, refl, refl)
 
 pub loop-i-preserved : goal.loop-i-preserved
 loop-i-preserved c =
     let l = c.loop-i in
-    let a = c.args in
-    let w = a.words.now in
-    let more : l.i / word_bytes < length w = ltb-true (l.i / word_bytes) (length w) c.if-i-words.true-raw in (
-      omega arith,
-      omega arith,
-      length-set l.out l.i c.byte.result ∙ l.invariant.2,
-      stored_more (bytes w) a.out.now l.i (omega arith) (omega (arith, length-bytes w))
-          (c.byte.ensures ∙ sym (bytes_at w l.i (omega arith))) l.invariant.3,
-    )
+    let w = c.args.words.now in
+    let more : l.i / word_bytes < length w = search rules in
+    let word : c.in-Some.word.now ≡ get_or w (l.i / word_bytes) 0 = search rules in
+    let byte : get_or c.to_le_bytes.result (l.i % word_bytes) 0 ≡ get_or (bytes w) l.i 0 =
+    ap (λ (b : List ℕ). get_or b (l.i % word_bytes) 0) (c.to_le_bytes.ensures ∙ to_le_bytes_8 c.in-Some.word.now ∙ ap (to_le word_bytes) word)
+    ∙ sym (bytes_at w l.i (omega arith)) in
+    (omega arith, stored_more (bytes w) c.args.out.now l.i (omega arith) (omega (arith, length-bytes w)) byte l.invariant.1)
 
-pub returns-else-i-words : goal.returns-else-i-words
-returns-else-i-words c =
+pub returns-in_default : goal.returns-in_default
+returns-in_default c =
     let l = c.loop-i in
-    let a = c.args in
-    let w = a.words.now in
-    let out : length w ≤ l.i / word_bytes = ltb-false (l.i / word_bytes) (length w) c.if-i-words.false-raw in
+    let o = c.args.out.now in
+    let w = c.args.words.now in
+    let out : length w ≤ l.i / word_bytes = search rules in
     record {
       output =
-          l.invariant.3
-          ∙ store_out (bytes w) a.out.now l.i (omega (arith, length-bytes w)) (omega arith)
-          ∙ ap (λ (n : ℕ). take (length a.out.now) (bytes w) ++ drop n a.out.now) (length-bytes w);
+          set-get_or l.out l.i 0
+          ∙ l.invariant.1
+          ∙ store_out (bytes w) o l.i (omega (arith, length-bytes w)) (omega arith)
+          ∙ ap (λ (n : ℕ). take (length o) (bytes w) ++ drop n o) (length-bytes w);
     }
 
 pub returns-after-loop-i : goal.returns-after-loop-i
 returns-after-loop-i c =
     let l = c.loop-i in
-    let a = c.args in
-    let w = a.words.now in
+    let o = c.args.out.now in
+    let w = c.args.words.now in
     record {
       output =
-          l.invariant.3
-          ∙ store_full (bytes w) a.out.now l.i (omega arith) (omega (arith, length-bytes w))
-          ∙ ap (λ (n : ℕ). take (length a.out.now) (bytes w) ++ drop n a.out.now) (length-bytes w);
+          l.invariant.1
+          ∙ store_full (bytes w) o l.i (omega arith) (omega (arith, length-bytes w))
+          ∙ ap (λ (n : ℕ). take (length o) (bytes w) ++ drop n o) (length-bytes w);
     }
