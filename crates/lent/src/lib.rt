@@ -29,6 +29,7 @@ fn mix(z: u64) -> u64
 }
 
 // What lies at place i with this seed: splitmix64's output i, or 0 with seed 0.
+#[tactic(auto, using(crate::proofs::Product::stepped), unfolding(crate::specs::Lent::drawn))]
 fn draw(seed: u64, i: usize) -> u64
     ensures { result ≡ drawn seed i }
 {
@@ -40,7 +41,7 @@ fn draw(seed: u64, i: usize) -> u64
 }
 
 // The words become those of a seed.
-#[tactic(auto, unfolding(crate::specs::Lent::dirtied))]
+#[tactic(auto, using(word::proofs::Table::is_table), unfolding(crate::specs::Lent::dirtied))]
 pub fn dirty(seed: u64, words: &mut [u64])
     ensures { DirtyPromise seed words.old words.new }
 {
@@ -50,7 +51,7 @@ pub fn dirty(seed: u64, words: &mut [u64])
 }
 
 // The bytes become the low bytes of those words. A trait for both kinds of element would be longer than this second loop.
-#[tactic(auto, unfolding(crate::specs::Lent::dirtied_bytes))]
+#[tactic(auto, using(word::proofs::Table::is_table), unfolding(crate::specs::Lent::dirtied_bytes))]
 pub fn dirty_bytes(seed: u64, bytes: &mut [u8])
     ensures { DirtyBytesPromise seed bytes.old bytes.new }
 {
