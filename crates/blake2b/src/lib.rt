@@ -65,10 +65,12 @@ impl Engine {
     pub fn feed(self, piece: &[u8]) -> Engine
         ensures { FeedPromise self piece.now result }
     {
-        let mut h = self.h;
-        let mut buffer = self.buffer;
-        let mut filled = self.filled;
-        let mut count = self.count;
+        let Engine {
+            mut h,
+            mut buffer,
+            mut filled,
+            mut count,
+        } = self;
         for byte in piece {
             if Compression::BLOCK <= filled {
                 count = count.add(Compression::BLOCK as u64);
