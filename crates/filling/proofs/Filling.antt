@@ -1,5 +1,5 @@
 -- Filling a block writes that block alone: the memory stays as long, what the block then holds, and that every other word is as it was. Assumes nothing.
-use mathlib.Core.Path.{◌≡◌, ap}
+use mathlib.Core.Path.{◌≡◌, sym, ap, ◌∙◌}
 use mathlib.Core.Logic.{◌≢◌}
 use mathlib.Core.Bool.{Bool, true, false, cond}
 use mathlib.Core.List.{List}
@@ -62,6 +62,12 @@ pub word_dependent : (P : Params) (r sl l k : ℕ) (w : List ℕ) → addressed 
     → word_for P r sl l k w ≡ get_or (block (previous_index P sl l k) w) 0 0
 unfolding random_word
 word_dependent P r sl l k w e = rw e
+
+-- and as a step finds it
+pub from_addresses : (P : Params) (r sl l k : ℕ) (w : List ℕ) {x : ℕ} → addressed P r sl ≡ true → x ≡ addressed_word P r sl l k
+    → x ≡ word_for P r sl l k w
+unfolding addressed_word
+from_addresses P r sl l k w e p = p ∙ sym (word_addressed P r sl l k w e)
 
 -- the memory once a block is filled, made from its parts
 module _ (P : Params) (r sl l k : ℕ) (w : List ℕ) (x before from at : ℕ) (previous referred new : List ℕ) where

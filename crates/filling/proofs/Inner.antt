@@ -71,6 +71,9 @@ module _ (P : Params) (r sl l from to words : ℕ) where
         high = leb-true to (segment P) b.1;
       }
 
+  pub part_of : lent P words ≡ true → in_segment P r sl l from to ≡ true → Part P r sl l from to words
+  part_of a b = part_fact (rw (a, b))
+
   pub part-true : Part P r sl l from to words → lent P words && in_segment P r sl l from to ≡ true
   part-true p =
       rw (

@@ -4,27 +4,73 @@
 
 ghost use Rattle.std.specs.Prelude.{true, false, ◌≡◌, ◌<◌, get_or, length};
 ghost use Rattle.params.specs.Limits.{slices, segment};
-ghost use Rattle.address.specs.Address.{addressed};
+ghost use Rattle.address.specs.Address.{address_block, address_counter, addressed_word};
 ghost use Rattle.memory.specs.Lent.{Has, Lent};
 ghost use Rattle.memory.specs.Memory as memory;
 ghost use Rattle.filling.specs.Filling as spec;
-ghost use Rattle.filling.specs.Inner.{Segment, Part, Fillable};
+ghost use Rattle.filling.specs.Inner.{Part, Fillable};
 ghost use Rattle.filling.specs.Promises.{FillBlocksPromise, FillAllPromise};
 
 use address::{address_block, address_counter, address_word, is_addressed};
 use block::Block;
 use memory::{is_lent, read_block, write_block};
 use params::Params;
-use position::{LaneNumber, column, first_block, index, previous_column, reference_position};
+use position::{
+    LaneNumber, Segment, column, first_block, index, previous_column, reference_position,
+};
+use std::ops::Range;
 
 // Word 0 of the previous block.
-fn previous_word(words: &[u64], params: Params, slice: u32, lane: LaneNumber, block: u32) -> u64
-    requires { (slice < slices) × (block < segment params) × Has (length words.now) (spec.previous_index params slice lane.0 block) }
-    ensures { result ≡ get_or (memory.block (spec.previous_index params slice lane.0 block) words.now) 0 0 }
+fn previous_word(words: &[u64], params: Params, segment: Segment, block: u32) -> u64
+    requires { Fillable params segment.pass segment.slice segment.lane.0 block (length words.now) }
+    ensures { result ≡ get_or (memory.block (spec.previous_index params segment.slice segment.lane.0 block) words.now) 0 0 }
 {
-    let previous = index(params, lane, previous_column(params, slice, block));
-    let first = Block::WORDS * previous;
-    words[first]
+    let previous = index(
+        params,
+        segment.lane,
+        previous_column(params, segment.slice, block),
+    );
+    words[Block::WORDS * previous]
+}
+
+// The address block of a segment that was made last, and its counter.
+#[derive(Drop)]
+struct Addresses {
+    params: Params,
+    segment: Segment,
+    counter: u32,
+    block: Block,
+    ghost made: { block.words ≡ address_block params segment.pass segment.slice segment.lane.0 counter },
+}
+
+impl Addresses {
+    // The address block that a block takes its word from, be it block 0, block 2 or any other.
+    fn of(params: Params, segment: Segment, block: u32) -> Addresses
+        ensures { (result.params ≡ params)
+            × (result.segment ≡ segment)
+            × (result.counter ≡ address_counter block) }
+    {
+        let counter = address_counter(block);
+        Addresses {
+            params,
+            segment,
+            counter,
+            block: address_block(params, segment, counter),
+        }
+    }
+
+    // The random word of a block. An address block is made when the counter changes.
+    #[tactic(auto, unfolding(address::specs::Address::addressed_word))]
+    fn word(&mut self, block: u32) -> u64
+        ensures word { result ≡ addressed_word self.old.params self.old.segment.pass self.old.segment.slice self.old.segment.lane.0 block }
+        ensures same { (self.new.params ≡ self.old.params) × (self.new.segment ≡ self.old.segment) }
+    {
+        let counter = address_counter(block);
+        if self.counter != counter {
+            *self = Addresses::of(self.params, self.segment, block);
+        }
+        address_word(&self.block.words, block)
+    }
 }
 
 // Stores a new block: pass 0 or version 16 overwrites; otherwise XOR with what stood there.
@@ -33,7 +79,7 @@ fn store(words: &mut [u64], params: Params, pass: u32, at: usize, new: Block)
     ensures { words.new
         ≡ memory.put at (spec.stored params pass (memory.block at words.old) new.words) words.old }
 {
-    if (pass == 0) | (params.version == Params::V0X10) {
+    if pass == 0 || params.version == Params::V0X10 {
         write_block(words, at, new);
         return;
     }
@@ -42,133 +88,71 @@ fn store(words: &mut [u64], params: Params, pass: u32, at: usize, new: Block)
 }
 
 // Fills a block whose random word is given: the compression of the previous block and the reference block is stored.
-fn fill_with(
-    words: &mut [u64],
-    params: Params,
-    pass: u32,
-    slice: u32,
-    lane: LaneNumber,
-    block: u32,
-    word: u64,
-)
-    requires { Fillable params pass slice lane.0 block (length words.old) × (word ≡ spec.word_for params pass slice lane.0 block words.old) }
-    ensures { words.new ≡ spec.fill params pass slice lane.0 block words.old }
+fn fill_with(words: &mut [u64], params: Params, segment: Segment, block: u32, word: u64)
+    requires { Fillable params segment.pass segment.slice segment.lane.0 block (length words.old)
+        × (word ≡ spec.word_for params segment.pass segment.slice segment.lane.0 block words.old) }
+    ensures { words.new ≡ spec.fill params segment.pass segment.slice segment.lane.0 block words.old }
 {
-    let before = index(params, lane, previous_column(params, slice, block));
+    let before = index(
+        params,
+        segment.lane,
+        previous_column(params, segment.slice, block),
+    );
     let previous = read_block(&*words, before);
     let to = reference_position(
         params.lanes,
         params.memory,
         params.passes,
-        pass,
-        slice,
-        lane,
+        segment.pass,
+        segment.slice,
+        segment.lane,
         block,
         word,
     );
-    let referred = to.block;
-    let reference = read_block(&*words, index(params, to.lane, referred));
+    let reference = read_block(&*words, index(params, to.lane, to.block));
     let new = Block::compress(previous, reference);
-    let at = index(params, lane, column(params, slice, block));
-    store(words, params, pass, at, new);
+    let at = index(params, segment.lane, column(params, segment.slice, block));
+    store(words, params, segment.pass, at, new);
 }
 
-// Fills blocks of a segment whose random words come from address blocks. An address block is made when the counter changes, and so at
-// the first of these blocks, be it block 0, block 2 or any other.
-fn fill_addressed(
-    words: &mut [u64],
-    params: Params,
-    pass: u32,
-    slice: u32,
-    lane: LaneNumber,
-    from: u32,
-    to: u32,
-)
-    requires { Part params pass slice lane.0 from to (length words.old) × (addressed params pass slice ≡ true) }
-    ensures { words.new ≡ spec.fill_blocks params pass slice lane.0 from to words.old }
+// Fills blocks of a lane's segment, whose random words come from address blocks, or else from the blocks before.
+fn fill_part(words: &mut [u64], params: Params, segment: Segment, blocks: Range<u32>)
+    requires { Part params segment.pass segment.slice segment.lane.0 blocks.start blocks.end (length words.old) }
+    ensures { words.new ≡ spec.fill_blocks params segment.pass segment.slice segment.lane.0 blocks.start blocks.end words.old }
 {
-    let mut made = 0;
-    let mut addresses = Block::new();
-    let mut block = from;
-    while block < to {
-        let counter = address_counter(block);
-        if made != counter {
-            made = counter;
-            addresses = address_block(params, pass, slice, lane, counter);
-        }
-        let word = address_word(&addresses.words, block);
-        fill_with(&mut *words, params, pass, slice, lane, block, word);
-        block += 1;
-    }
-}
-
-// Fills blocks of a segment whose random words come from the blocks before.
-fn fill_dependent(
-    words: &mut [u64],
-    params: Params,
-    pass: u32,
-    slice: u32,
-    lane: LaneNumber,
-    from: u32,
-    to: u32,
-)
-    requires { Part params pass slice lane.0 from to (length words.old) × (addressed params pass slice ≡ false) }
-    ensures { words.new ≡ spec.fill_blocks params pass slice lane.0 from to words.old }
-{
-    let mut block = from;
-    while block < to {
-        let word = previous_word(&*words, params, slice, lane, block);
-        fill_with(&mut *words, params, pass, slice, lane, block, word);
-        block += 1;
-    }
-}
-
-// Fills blocks of a lane's segment.
-fn fill_part(
-    words: &mut [u64],
-    params: Params,
-    pass: u32,
-    slice: u32,
-    lane: LaneNumber,
-    from: u32,
-    to: u32,
-)
-    requires { Part params pass slice lane.0 from to (length words.old) }
-    ensures { words.new ≡ spec.fill_blocks params pass slice lane.0 from to words.old }
-{
-    if is_addressed(params, pass, slice) {
-        fill_addressed(words, params, pass, slice, lane, from, to);
+    let mut addresses = if is_addressed(params, segment.pass, segment.slice) {
+        Some(Addresses::of(params, segment, blocks.start))
     } else {
-        fill_dependent(words, params, pass, slice, lane, from, to);
+        None
+    };
+    for block in blocks.start..blocks.end {
+        let word = match &mut addresses {
+            Some(made) => made.word(block),
+            None => previous_word(&*words, params, segment, block),
+        };
+        fill_with(&mut *words, params, segment, block, word);
     }
 }
 
 // Whether there is such a segment, and these are blocks of it that are filled.
-fn in_segment(params: Params, pass: u32, slice: u32, lane: LaneNumber, from: u32, to: u32) -> bool
-    ensures { result ≡ spec.in_segment params pass slice lane.0 from to }
+fn in_segment(params: Params, segment: Segment, from: u32, to: u32) -> bool
+    ensures { result ≡ spec.in_segment params segment.pass segment.slice segment.lane.0 from to }
 {
-    (pass < params.passes)
-        & (slice < Params::SYNC_POINTS)
-        & (lane.0 < params.lanes)
-        & (first_block(pass, slice) <= from)
-        & (to <= params.segment_length())
+    segment.pass < params.passes
+        && segment.slice < Params::SYNC_POINTS
+        && segment.lane.0 < params.lanes
+        && first_block(segment.pass, segment.slice) <= from
+        && to <= params.segment_length()
 }
 
-// Fills the blocks of a lane's segment before one, from another on. All words stay if they are not lent for these parameters, or if
-// these are no blocks of a segment that are filled.
-pub fn fill_blocks(
-    words: &mut [u64],
-    params: Params,
-    pass: u32,
-    slice: u32,
-    lane: LaneNumber,
-    from: u32,
-    to: u32,
-)
-    ensures { FillBlocksPromise words.old params pass slice lane.0 from to words.new }
+// Fills some blocks of a lane's segment. All words stay if they are not lent for these parameters, or if these are no blocks of a segment
+// that are filled.
+
+pub fn fill_blocks(words: &mut [u64], params: Params, segment: Segment, blocks: Range<u32>)
+    ensures { FillBlocksPromise words.old params segment.pass segment.slice segment.lane.0 blocks.start blocks.end words.new }
 {
-    if is_lent(params, words.len()) & in_segment(params, pass, slice, lane, from, to) {
-        fill_part(words, params, pass, slice, lane, from, to);
+    if is_lent(params, words.len()) && in_segment(params, segment, blocks.start, blocks.end) {
+        fill_part(words, params, segment, blocks);
     }
 }
 
@@ -177,12 +161,14 @@ fn fill_slice(words: &mut [u64], params: Params, pass: u32, slice: u32)
     requires { Lent params (length words.old) × (pass < params.passes) × (slice < slices) }
     ensures { words.new ≡ spec.fill_slice params pass slice words.old }
 {
-    let from = first_block(pass, slice);
-    let to = params.segment_length();
-    let mut lane = 0;
-    while lane < params.lanes {
-        fill_part(&mut *words, params, pass, slice, LaneNumber(lane), from, to);
-        lane += 1;
+    for lane in 0..params.lanes {
+        let segment = Segment {
+            pass,
+            slice,
+            lane: LaneNumber(lane),
+        };
+        let blocks = first_block(pass, slice)..params.segment_length();
+        fill_part(&mut *words, params, segment, blocks);
     }
 }
 
@@ -191,10 +177,8 @@ fn fill_pass(words: &mut [u64], params: Params, pass: u32)
     requires { Lent params (length words.old) × (pass < params.passes) }
     ensures { words.new ≡ spec.fill_pass params pass words.old }
 {
-    let mut slice = 0;
-    while slice < Params::SYNC_POINTS {
+    for slice in 0..Params::SYNC_POINTS {
         fill_slice(&mut *words, params, pass, slice);
-        slice += 1;
     }
 }
 
@@ -205,9 +189,7 @@ pub fn fill_all(words: &mut [u64], params: Params)
     if !is_lent(params, words.len()) {
         return;
     }
-    let mut pass = 0;
-    while pass < params.passes {
+    for pass in 0..params.passes {
         fill_pass(&mut *words, params, pass);
-        pass += 1;
     }
 }

@@ -18,15 +18,15 @@ fill_part-requires c =
     let pre = c.requires in
     record {
       of = record { lent = lent_as pre.0 c.loop-lane.invariant.long; pass = pre.1; slice = pre.2; lane = omega arith };
-      low = omega (arith, c.first_block-from.ensures.result);
-      high = omega (arith, c.segment_length-to.ensures.result);
+      low = omega (arith, c.first_block.ensures.result);
+      high = omega (arith, c.segment_length.ensures.result);
     }
 
 pub loop-lane-preserved : goal.loop-lane-preserved
 unfolding fill_segment
 loop-lane-preserved c =
     leads_next c.loop-lane.invariant _ (omega arith)
-    (c.fill_part.ensures ∙ rw (c.first_block-from.ensures.result, c.segment_length-to.ensures.result))
+    (c.fill_part.ensures ∙ rw (c.first_block.ensures.result, c.segment_length.ensures.result))
     (search rules)
 
 pub returns : goal.returns

@@ -12,21 +12,21 @@ use Rattle.filling.proofs.fill_with.Goals as goal
 
 pub store-requires : goal.store-requires
 store-requires c =
-    let is_current : let a = c.args in c.index-at.result ≡ current_index a.params a.slice a.lane.0 a.block = let f = c.requires.0 in
+    let is_current : let a = c.args in c.index-at.result ≡ current_index a.params a.segment.slice a.segment.lane.0 a.block = let f = c.requires.0 in
     columns.current_index_lem f.of.slice f.inside c.index-at.ensures c.column.ensures in
     rw is_current (current_room c.requires.0)
 
 pub returns : goal.returns
 returns c =
-    let is_previous : let a = c.args in c.index-before.result ≡ previous_index a.params a.slice a.lane.0 a.block = let f = c.requires.0 in
+    let is_previous : let a = c.args in c.index-before.result ≡ previous_index a.params a.segment.slice a.segment.lane.0 a.block = let f = c.requires.0 in
     columns.previous_index_lem f.of.slice f.inside c.index-before.ensures c.previous_column.ensures in
-    let is_reference : let a = c.args in c.index.result ≡ reference a.params.lanes (segment a.params) a.pass a.slice a.lane.0 a.block a.word = let f = c.requires.0 in
+    let is_reference : let a = c.args in c.index.result ≡ reference a.params.lanes (segment a.params) a.segment.pass a.segment.slice a.segment.lane.0 a.block a.word = let f = c.requires.0 in
     reference_index_lem (accepted f) c.reference_position-to.ensures c.index.ensures in
-    let is_current : let a = c.args in c.index-at.result ≡ current_index a.params a.slice a.lane.0 a.block = let f = c.requires.0 in
+    let is_current : let a = c.args in c.index-at.result ≡ current_index a.params a.segment.slice a.segment.lane.0 a.block = let f = c.requires.0 in
     columns.current_index_lem f.of.slice f.inside c.index-at.ensures c.column.ensures in
     let a = c.args in
     c.store.ensures
-    ∙ fill_parts a.params a.pass a.slice a.lane.0 a.block a.words.now a.word
+    ∙ fill_parts a.params a.segment.pass a.segment.slice a.segment.lane.0 a.block a.words.now a.word
     c.index-before.result c.index.result c.index-at.result
     c.read_block-previous.result.words c.read_block-reference.result.words c.compress-new.result.words
     c.requires.1 is_previous is_reference is_current
