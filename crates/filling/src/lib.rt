@@ -16,7 +16,7 @@ use block::Block;
 use memory::{is_lent, read_block, write_block};
 use params::Params;
 use position::{
-    LaneNumber, Segment, column, first_block, index, previous_column, reference_position,
+    LaneNumber, Reference, Segment, column, first_block, index, previous_column, reference_position,
 };
 use std::ops::Range;
 
@@ -103,12 +103,11 @@ fn fill_with(words: &mut [u64], params: Params, segment: Segment, block: u32, wo
         params.lanes,
         params.memory,
         params.passes,
-        segment.pass,
-        segment.slice,
-        segment.lane,
+        segment,
         block,
         word,
-    );
+    )
+    .unwrap_or(Reference::zeros());
     let reference = read_block(&*words, index(params, to.lane, to.block));
     let new = Block::compress(previous, reference);
     let at = index(params, segment.lane, column(params, segment.slice, block));

@@ -96,13 +96,13 @@ module _ {p m t r sl l k x : ℕ} where
       let z = position_accepted w f in
       (q.answer ∙ z, q.lane ∙ rw z, q.block ∙ rw z)
 
--- and the number in memory of that block
-pub reference_index_lem : {P : Params} {r sl l k x n : ℕ} {o : Result Reference Refusal}
+-- and the number in memory of that block, where zeros stand for a position that is not given
+pub reference_index_lem : {P : Params} {r sl l k x n : ℕ} {o : Result Reference Refusal} {to : Reference}
     → first (position_rows P.lanes P.memory P.passes r sl l k) ≡ 0
-    → ReferencePromise P.lanes P.memory P.passes r sl l k x o
-    → IndexPromise P (result_unwrap_or o no_reference).lane (result_unwrap_or o no_reference).block n
+    → ReferencePromise P.lanes P.memory P.passes r sl l k x o → to ≡ result_unwrap_or o no_reference
+    → IndexPromise P to.lane to.block n
     → n ≡ reference P.lanes (segment P) r sl l k x
-reference_index_lem {P} {r} {sl} {l} {k} {x} {n} {o} z q i =
-    let a : (result_unwrap_or o no_reference).lane.0 ≡ reference_lane P.lanes r sl l x = q.lane ∙ rw z in
-    let c : (result_unwrap_or o no_reference).block.0 ≡ reference_column P.lanes (segment P) r sl l k x = q.block ∙ rw z in
+reference_index_lem {P} {r} {sl} {l} {k} {x} z q e i =
+    let a = ap (λ (t : Reference). t.lane.0) e ∙ q.lane ∙ rw z in
+    let c = ap (λ (t : Reference). t.block.0) e ∙ q.block ∙ rw z in
     i.result ∙ ap₂ (λ (lane column : ℕ). index (segment P) lane column) a c

@@ -21,7 +21,7 @@ returns c =
     let is_previous : let a = c.args in c.index-before.result ≡ previous_index a.params a.segment.slice a.segment.lane.0 a.block = let f = c.requires.0 in
     columns.previous_index_lem f.of.slice f.inside c.index-before.ensures c.previous_column.ensures in
     let is_reference : let a = c.args in c.index.result ≡ reference a.params.lanes (segment a.params) a.segment.pass a.segment.slice a.segment.lane.0 a.block a.word = let f = c.requires.0 in
-    reference_index_lem (accepted f) c.reference_position-to.ensures c.index.ensures in
+    reference_index_lem (accepted f) c.reference_position.ensures (rw (← c.zeros.ensures.result) c.unwrap_or-to.ensures) c.index.ensures in
     let is_current : let a = c.args in c.index-at.result ≡ current_index a.params a.segment.slice a.segment.lane.0 a.block = let f = c.requires.0 in
     columns.current_index_lem f.of.slice f.inside c.index-at.ensures c.column.ensures in
     let a = c.args in
