@@ -46,6 +46,9 @@ left_new n new old e = ap (λ (t : Bool). cond t new old) (eq-eqb n 0 e)
 pub left_old : {A : Type 0} (n : ℕ) (new old : A) → (n ≡ 0 → ⊥) → if_accepted n new old ≡ old
 left_old n new old e = ap (λ (t : Bool). cond t new old) (ne_eqb n 0 e)
 
+pub left_refused : {A : Type 0} {n : ℕ} (e : Refusal) (new old : A) → refusal e ≡ n → old ≡ if_accepted n new old
+left_refused {n = n} e new old q = sym (left_old n new old (λ z. refused e (q ∙ z)))
+
 -- an output that rows 11 and 12 pass has from least to most bytes
 pub between : (least most n : ℕ) → first (length_rows least most n) ≡ 0 → (least ≤ n) × (n ≤ most)
 between least most n h =

@@ -14,8 +14,7 @@ use Rattle.job.specs.declared.Job.{Job}
 pub start_settled : {P : Params} {tag : ℕ} {password salt secret ad w : List ℕ} {r r' : Result Job Refusal} {v v' : List ℕ}
     → StartPromise P tag password salt secret ad w r v → StartPromise P tag password salt secret ad w r' v' → (r ≡ r') × (v ≡ v')
 start_settled {r = r} {r' = r'} p p' =
-    let job : (r r' : Result Job Refusal) → r ≡ r' → result_unwrap_or r zero_job ≡ result_unwrap_or r' zero_job = λ r r' e. ap (λ a. result_unwrap_or a zero_job) e in
-    (
+    let job : (r r' : Result Job Refusal) → r ≡ r' → result_unwrap_or r zero_job ≡ result_unwrap_or r' zero_job = λ r r' e. ap (λ a. result_unwrap_or a zero_job) e in (
       same_answer r r' (p.answer ∙ sym p'.answer) (λ x y e e'. sym (job r (Ok x) e) ∙ p.job ∙ sym p'.job ∙ job r' (Ok y) e'),
       p.memory ∙ sym p'.memory,
     )

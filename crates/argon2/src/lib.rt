@@ -46,12 +46,7 @@ pub fn fill_memory(params: Params, inputs: Inputs, words: &mut [u64]) -> Result<
 }
 
 // Start: blocks 0 and 1 of every lane, and the job before the first step. Refused, the words stay and the job of zeros stands for the job.
-pub fn start(
-    params: Params,
-    tag: usize,
-    inputs: Inputs,
-    words: &mut [u64],
-) -> Result<Job, Refusal>
+pub fn start(params: Params, tag: usize, inputs: Inputs, words: &mut [u64]) -> Result<Job, Refusal>
     ensures { StartPromise params tag inputs.entry.password.now inputs.entry.salt.now inputs.entry.secret.now inputs.entry.ad.now
         words.old result words.new }
 {

@@ -1,46 +1,42 @@
 -- `argon2::step` meets its contract: refused, job and words stay; accepted, the rows say that the block is one that a step fills. Assumes nothing.
-use Prim.Native.Nat.{ℕ, ◌+◌}
-use mathlib.Core.Path.{◌≡◌, sym, ap, ◌∙◌}
-use native.Mathlib.Omega.{arith}
-use lib.ListN.{length}
+use Rattle.std.proofs.Common.{◌≡◌, ℕ, ◌+◌, sym, ap, ◌∙◌, length, arith}
 use Rattle.answer.specs.Answers.{first}
-use Rattle.argon2.specs.Calls.{stepped}
+use Rattle.answer.proofs.Answered.{handed_on, left_new, left_refused}
 use Rattle.filling.specs.Filling.{fill, fill_blocks}
-use Rattle.filling.proofs.Filling.{one_block}
 use Rattle.filling.specs.Inner.{Part}
+use Rattle.filling.proofs.Filling.{one_block}
 use Rattle.filling.proofs.Inner.{blocks_there}
+use Rattle.job.specs.Jobs.{position, moved, onward, step_rows}
+use Rattle.job.proofs.Jobs.{ready}
 use Rattle.params.proofs.Sizes.{lane_le}
-use Rattle.job.specs.Jobs.{position, step_rows}
-use Rattle.answer.proofs.Answered.{left_new, left_old}
-use Rattle.job.proofs.Jobs.{Ready, ready}
+use Rattle.argon2.specs.Calls.{stepped}
 use Rattle.argon2.proofs.step.Goals as goal
 
-pub returns-then-number-ne0 : goal.returns-then-number-ne0
+pub returns-in_err-next : goal.returns-in_err-next
 unfolding stepped
-returns-then-number-ne0 c =
-    let numbered : let a = c.args in c.number.result ≡ first (step_rows a.job (length a.words.now) a.lane.0) = c.number.ensures.result ∙ c.after-next.ensures.answer in
-    let a = c.args in
-    let n = first (step_rows a.job (length a.words.now) a.lane.0) in
-    let refused : n ≡ 0 → ⊥ = λ e. c.if-number-ne0.true (numbered ∙ e) in
+returns-in_err-next c =
+    let j = c.args.job.now in
+    let w = c.args.words.now in
+    let l = c.args.lane.0 in
+    let refused = c.in_err-next.ensures.answer in
     record {
-      answer = c.after-next.ensures.answer;
-      job = c.after-next.ensures.job;
-      memory = sym (left_old n (fill a.job.params a.job.pass a.job.slice a.lane.0 (position a.job a.lane.0) a.words.now) a.words.now refused);
+      answer = handed_on _ _ c.from_residual.ensures.1 refused;
+      job = left_refused c.in_err-next.field-0.0 (onward (moved j l)) j refused;
+      memory = left_refused c.in_err-next.field-0.0 (fill j.params j.pass j.slice l (position j l) w) w refused;
     }
 
 pub returns : goal.returns
 unfolding stepped
 returns c =
-    let numbered : let a = c.args in c.number.result ≡ first (step_rows a.job (length a.words.now) a.lane.0) = c.number.ensures.result ∙ c.after-next.ensures.answer in
-    let accepted : let a = c.args in first (step_rows a.job (length a.words.now) a.lane.0) ≡ 0 = omega (arith, numbered) in
-    let is_ready : let a = c.args in Ready a.job (length a.words.now) a.lane.0 = let a = c.args in
-    ready a.job (length a.words.now) a.lane.0 accepted in
-    let a = c.args in
-    let n = first (step_rows a.job (length a.words.now) a.lane.0) in
-    let k = position a.job a.lane.0 in
+    let j = c.args.job.now in
+    let w = c.args.words.now in
+    let l = c.args.lane.0 in
+    let n = first (step_rows j (length w) l) in
+    let accepted : n ≡ 0 = sym c.in_ok-next.ensures.answer in
+    let r = ready j (length w) l accepted in
+    let k = position j l in
     let at = c.position-block.ensures.result in
-    let r = is_ready in
-    let part : Part a.job.params a.job.pass a.job.slice a.lane.0 c.position-block.result (c.position-block.result + 1) (length a.words.now) =
+    let part : Part j.params j.pass j.slice l c.position-block.result (c.position-block.result + 1) (length w) =
     record {
       of =
           record {
@@ -49,24 +45,21 @@ returns c =
             slice = r.inside.within;
             lane = r.lane;
           };
-      low = omega (arith, at, r.inside.low a.lane.0 r.lane);
+      low = omega (arith, at, r.inside.low l r.lane);
       high = omega (arith, at, r.under);
     } in
     record {
-      answer = c.after-next.ensures.answer;
-      job = c.after-next.ensures.job;
+      answer = c.in_ok-next.ensures.answer;
+      job = c.in_ok-next.ensures.job;
       memory =
           blocks_there c.fill_blocks.ensures part
-          ∙ ap (λ (m : ℕ). fill_blocks a.job.params a.job.pass a.job.slice a.lane.0 m (m + 1) a.words.now) at
-          ∙ one_block a.job.params a.job.pass a.job.slice a.lane.0 k a.words.now
-          ∙ sym (left_new n (fill a.job.params a.job.pass a.job.slice a.lane.0 k a.words.now) a.words.now accepted);
+          ∙ ap (λ (m : ℕ). fill_blocks j.params j.pass j.slice l m (m + 1) w) at
+          ∙ one_block j.params j.pass j.slice l k w
+          ∙ sym (left_new n (fill j.params j.pass j.slice l k w) w accepted);
     }
 
 pub overflow_add-block : goal.overflow_add-block
 overflow_add-block c =
-    let numbered : let a = c.args in c.number.result ≡ first (step_rows a.job (length a.words.now) a.lane.0) = c.number.ensures.result ∙ c.after-next.ensures.answer in
-    let accepted : let a = c.args in first (step_rows a.job (length a.words.now) a.lane.0) ≡ 0 = omega (arith, numbered) in
-    let is_ready : let a = c.args in Ready a.job (length a.words.now) a.lane.0 = let a = c.args in
-    ready a.job (length a.words.now) a.lane.0 accepted in
-    let P = c.args.job.params in
-    omega (arith, c.position-block.ensures.result, is_ready.under, lane_le P.memory P.lanes)
+    let j = c.args.job.now in
+    let r = ready j (length c.args.words.now) c.args.lane.0 (sym c.in_ok-next.ensures.answer) in
+    omega (arith, c.position-block.ensures.result, r.under, lane_le j.params.memory j.params.lanes)
