@@ -23,13 +23,18 @@ one_more j w schedule i h p =
     ∙ (λ k. run (on (sym p.job k) (sym p.memory k)) (drop (sym (add-one i) k) schedule))
 
 pub loop-lane-preserved : goal.loop-lane-preserved
-loop-lane-preserved c = ?
+loop-lane-preserved c =
+    let v = c.loop-lane in (
+      c.step.auto.words ∙ v.invariant.0,
+      v.invariant.1 ∙ one_more v.job v.words c.args.schedule.now v.lane-index c.loop-lane-test.true c.step.ensures,
+    )
 
 pub returns : goal.returns
 returns c =
     let a = c.args in
     let v = c.loop-lane in
+    let done : v.lane-index ≡ length a.schedule.now = omega (arith, c.loop-lane-test.false) in
     let end : run (on a.job.now a.words.now) a.schedule.now ≡ on v.job v.words =
     v.invariant.1
-    ∙ ap (λ (ls : List ℕ). run (on v.job v.words) ls) (drop-length a.schedule.now) in
+    ∙ ap (λ (ls : List ℕ). run (on v.job v.words) ls) (ap (λ (n : ℕ). drop n a.schedule.now) done ∙ drop-length a.schedule.now) in
     record { job = sym (ap (λ (σ : State). σ.job) end); memory = sym (ap (λ (σ : State). σ.memory) end) }
