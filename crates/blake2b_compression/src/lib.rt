@@ -53,6 +53,7 @@ impl Compression {
 }
 
 // What word 14 is flipped by: all bits in the last block, else none.
+#[tactic(auto, unfolding(crate::specs::Compression::flips))]
 fn flips_of(last: bool) -> u64
     ensures { result ≡ flips last }
 {
@@ -97,6 +98,7 @@ fn folded(h: [u64; Compression::STATE], v: [u64; Compression::WORDS]) -> [u64; C
 }
 
 // The state h after a block, with the count of bytes up to the block's end, in two words, and the mark of the last block.
+#[tactic(auto, unfolding(crate::specs::Compression::F))]
 pub fn compress(
     h: [u64; Compression::STATE],
     block: [u8; Compression::BLOCK],

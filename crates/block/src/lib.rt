@@ -19,6 +19,7 @@ pub struct Block {
 }
 
 // The sum of two words and of twice the product of their low halves; each sum wraps at 64 bits.
+#[tactic(auto, using(crate::proofs::Mixing::mixed))]
 fn multiply_add(a: u64, b: u64) -> u64
     ensures { result ≡ spec.multiply_add a b }
 {
@@ -122,6 +123,7 @@ impl Block {
     pub const ROW: usize = Block::SIDE * Block::REGISTER;
 
     // The block of zeros.
+    #[tactic(auto, unfolding(word::specs::Table::table))]
     pub fn new() -> Block
         ensures { NewPromise result }
     {
@@ -158,6 +160,7 @@ impl Block {
     }
 
     // The compression G of two blocks: the permutation on the rows of their XOR, then on the columns, XORed with it.
+    #[tactic(auto, unfolding(crate::specs::Block::compress))]
     pub fn compress(x: Block, y: Block) -> Block
         ensures { CompressPromise x y result }
     {

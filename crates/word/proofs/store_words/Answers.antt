@@ -7,7 +7,7 @@ use Rattle.std.proofs.lemmas.List.{set-get_or}
 use native.Mathlib.Omega.{arith}
 use lib.ListN.{length, take, drop, get_or}
 use Rattle.word.specs.Word.{word_bytes, to_le, bytes}
-use Rattle.word.proofs.Bytes.{length-bytes, bytes_at, stored_more, store_full, store_out}
+use Rattle.word.proofs.Bytes.{length-bytes, bytes_at, stored_more, store_out}
 use Rattle.word.proofs.Library.{to_le_bytes_8}
 use Rattle.word.proofs.store_words.Goals as goal
 
@@ -33,17 +33,5 @@ returns-in_default c =
           set-get_or l.out l.i 0
           ∙ l.invariant.1
           ∙ store_out (bytes w) o l.i (omega (arith, length-bytes w)) (omega arith)
-          ∙ ap (λ (n : ℕ). take (length o) (bytes w) ++ drop n o) (length-bytes w);
-    }
-
-pub returns-after-loop-i : goal.returns-after-loop-i
-returns-after-loop-i c =
-    let l = c.loop-i in
-    let o = c.args.out.now in
-    let w = c.args.words.now in
-    record {
-      output =
-          l.invariant.1
-          ∙ store_full (bytes w) o l.i (omega arith) (omega (arith, length-bytes w))
           ∙ ap (λ (n : ℕ). take (length o) (bytes w) ++ drop n o) (length-bytes w);
     }
