@@ -14,7 +14,8 @@ use Rattle.case_line.specs.Cases.{parsed}
 use Rattle.case_line.specs.Lines.{line_bytes, refused_words, numbered_text, tag_text, Written}
 use Rattle.case_line.specs.Promises.{AnswerLinePromise}
 use Rattle.case_line.specs.declared.sections.Case.{Case}
-use Rattle.case_line.specs.declared.sections.Parsed.{Parsed}
+use Rattle.case_line.specs.declared.sections.BadInput.{BadInput}
+use Rattle.std.specs.Prelude.{Result}
 use Rattle.case_line.proofs.Pushing.{within}
 
 pub left_alone : (input words line : List ℕ) → length line < line_bytes → AnswerLinePromise input words line 0 words line
@@ -22,7 +23,7 @@ left_alone input words line h =
     let short = lt-ltb (length line) line_bytes h in
     record { count = rw short; text = rw short; memory = rw short; within = omega arith; start = refl }
 
-pub answered : (input words line : List ℕ) {words' line' : List ℕ} {r : ℕ} (p : Parsed) → line_bytes ≤ length line → parsed input ≡ p
+pub answered : (input words line : List ℕ) {words' line' : List ℕ} {r : ℕ} (p : Result Case BadInput) → line_bytes ≤ length line → parsed input ≡ p
     → Written (answer_text input words p) line line' r → words' ≡ memory_after input words p → AnswerLinePromise input words line r words' line'
 answered input words line {words'} {line'} {r} p h e w m =
     let room = le-ltb (length line) line_bytes h in

@@ -6,6 +6,7 @@ use mathlib.Core.List.{List, ◌++◌}
 use mathlib.Core.Path.{◌≡◌, refl, sym, ap, ◌∙◌}
 use native.Mathlib.Omega.{arith}
 use borrow.Author.Tests.{lt-ltb, le-ltb, ltb-true, ltb-false}
+use Rattle.std.specs.Prelude.{Option, Some, None, Result, Ok, Err}
 use lib.Dec.{ltb}
 use lib.ListN.{length, take, get_or, replicate}
 use lib.Seq.{length-take-le, take_all, get_or-take}
@@ -14,12 +15,10 @@ use Rattle.word.proofs.Part.{bytes_of}
 use Rattle.word.proofs.Table.{same_table}
 use Rattle.case_line.specs.Cases.{number_bytes, numbers, numbers_end, max_section, longest, count_at, numbers_bad, section_at, after, with_data, with_secret, with_salt, with_password, parsed}
 use Rattle.case_line.specs.declared.sections.Span.{Span}
-use Rattle.case_line.specs.declared.sections.Section.{Section}
-use Rattle.case_line.specs.declared.sections.Section.TheVariants.{Body, Cut}
 use Rattle.case_line.specs.Answers.{answer_text, memory_after}
 use Rattle.case_line.specs.declared.sections.Case.{Case}
-use Rattle.case_line.specs.declared.sections.Parsed.{Parsed}
-use Rattle.case_line.specs.declared.sections.Parsed.TheVariants.{Good, Bad}
+use Rattle.case_line.specs.declared.sections.BadInput.{BadInput}
+use Rattle.case_line.specs.declared.sections.BadInput.TheVariants.{Numbers, Password, Salt, Secret, Data}
 use Rattle.case_line.proofs.Spans.{Lies, section_bytes, read, Read, good_fits}
 
 -- where a section has room before n, only its count decides
@@ -47,13 +46,13 @@ module _ (n : ℕ) (s : List ℕ) (long : n ≤ length s) (past : longest < n) w
         room (length s) at (count_at s at) (omega arith),
       )
 
-  after_same : (k at : ℕ) (f g : Span → Parsed) → at + section_bytes ≤ n → ((b : Span) → Lies s (at + section_bytes) b → f b ≡ g b)
-      → after k (section_at (take n s) at) f ≡ after k (section_at s at) g
-  after_same k at f g h same = rw (section_same at h) (go (section_at s at) (read s at))
+  after_same : (bad : BadInput) (at : ℕ) (f g : Span → Result Case BadInput) → at + section_bytes ≤ n → ((b : Span) → Lies s (at + section_bytes) b → f b ≡ g b)
+      → after bad (section_at (take n s) at) f ≡ after bad (section_at s at) g
+  after_same bad at f g h same = rw (section_same at h) (go (section_at s at) (read s at))
     where
-      go : (x : Section) → Read s at x → after k x f ≡ after k x g
-      go Cut r = refl
-      go (Body b) r = same b r
+      go : (x : Option Span) → Read s at x → after bad x f ≡ after bad x g
+      go None r = refl
+      go (Some b) r = same b r
 
   numbers_same : numbers_bad (take n s) ≡ numbers_bad s
   unfolding numbers_bad
@@ -76,11 +75,11 @@ module _ (n : ℕ) (s : List ℕ) (long : n ≤ length s) (past : longest < n) w
   unfolding parsed with_password with_salt with_secret
   first_bytes =
       rw numbers_same
-      (ap (cond (numbers_bad s) (Bad 1))
-      (after_same 2 numbers_end (with_password (take n s)) (with_password s) (omega arith) (λ password p.
-      after_same 3 password.end (with_salt (take n s) password) (with_salt s password) (omega arith) (λ salt q.
-      after_same 4 salt.end (with_secret (take n s) password salt) (with_secret s password salt) (omega arith) (λ secret r.
-      after_same 5 secret.end (with_data (take n s) password salt secret) (with_data s password salt secret) (omega arith) (λ ad t.
+      (ap (cond (numbers_bad s) (Err Numbers))
+      (after_same Password numbers_end (with_password (take n s)) (with_password s) (omega arith) (λ password p.
+      after_same Salt password.end (with_salt (take n s) password) (with_salt s password) (omega arith) (λ salt q.
+      after_same Secret salt.end (with_secret (take n s) password salt) (with_secret s password salt) (omega arith) (λ secret r.
+      after_same Data secret.end (with_data (take n s) password salt secret) (with_data s password salt secret) (omega arith) (λ ad t.
       data_same password salt secret ad (omega arith)))))))
 
 pub more_cannot_matter : (s : List ℕ) → parsed (take (longest + 1) s) ≡ parsed s
@@ -95,19 +94,19 @@ pub same_answer : (s w : List ℕ) → let first = take (longest + 1) s in
     (answer_text first w (parsed first) ≡ answer_text s w (parsed s)) × (memory_after first w (parsed first) ≡ memory_after s w (parsed s))
 same_answer s w = go (ltb (longest + 1) (length s)) refl
   where
-    Same : List ℕ → Parsed → Type 0
+    Same : List ℕ → Result Case BadInput → Type 0
     Same x p = (answer_text x w p ≡ answer_text s w (parsed s)) × (memory_after x w p ≡ memory_after s w (parsed s))
 
-    long : (p : Parsed) → parsed s ≡ p → longest < length s → Same (take (longest + 1) s) p
-    long (Good c) e h = absurd (omega (arith, (good_fits s c e).1))
-    long (Bad k) e h = rw e (refl, refl)
+    long : (p : Result Case BadInput) → parsed s ≡ p → longest < length s → Same (take (longest + 1) s) p
+    long (Ok c) e h = absurd (omega (arith, (good_fits s c e).1))
+    long (Err bad) e h = rw e (refl, refl)
 
     go : (t : Bool) → ltb (longest + 1) (length s) ≡ t → Same (take (longest + 1) s) (parsed (take (longest + 1) s))
     go true e = rw (more_cannot_matter s) (long (parsed s) refl (let h = ltb-true (longest + 1) (length s) e in omega arith))
     go false e = rw (take_all (longest + 1) s (ltb-false (longest + 1) (length s) e)) (refl, refl)
 
 -- a good case has at most that length
-pub longest_good : (s : List ℕ) (c : Case) → parsed s ≡ Good c → length s ≤ longest
+pub longest_good : (s : List ℕ) (c : Case) → parsed s ≡ Ok c → length s ≤ longest
 longest_good s c e = (good_fits s c e).1
 
 -- and one has it: seven numbers that are 0, and four sections of 255 zeros
@@ -117,9 +116,9 @@ full = to_le number_bytes numbers ++ replicate (number_bytes * numbers) 0 ++ bod
     body : List ℕ
     body = to_le number_bytes max_section ++ replicate max_section 0
 
-abbrev is_good : Parsed → Bool
-is_good (Good c) = true
-is_good (Bad k) = false
+abbrev is_good : Result Case BadInput → Bool
+is_good (Ok c) = true
+is_good (Err bad) = false
 
 pub longest_attained : (length full ≡ longest) × (is_good (parsed full) ≡ true)
 unfolding parsed numbers_bad number_at section_at with_password with_salt with_secret with_data

@@ -3,9 +3,11 @@ use Prim.Native.Nat.{ℕ}
 use mathlib.Core.List.{List}
 use mathlib.Core.Path.{◌≡◌, sym, ◌∙◌}
 use Rattle.case_line.specs.Promises.{ParsePromise, AnswerLinePromise}
-use Rattle.case_line.specs.declared.sections.Parsed.{Parsed}
+use Rattle.case_line.specs.declared.sections.BadInput.{BadInput}
+use Rattle.case_line.specs.declared.sections.Case.{Case}
+use Rattle.std.specs.Prelude.{Result}
 
-pub parse_settled : {input : List ℕ} {r r' : Parsed} → ParsePromise input r → ParsePromise input r' → r ≡ r'
+pub parse_settled : {input : List ℕ} {r r' : Result Case BadInput} → ParsePromise input r → ParsePromise input r' → r ≡ r'
 parse_settled p p' = p.result ∙ sym p'.result
 
 pub answer_line_settled : {input words line : List ℕ} {r r' : ℕ} {words₁ words₂ line₁ line₂ : List ℕ}

@@ -1,14 +1,12 @@
 -- Document 01, "The program and the host": one case in sections, each after its count, counts and numbers 4 bytes little-endian.
-use Rattle.std.specs.Prelude.{ℕ, ◌+◌, ◌*◌, ◌≤◌, Bool, cond, not, ◌||◌, List, ltb, eqb, length}
+use Rattle.std.specs.Prelude.{ℕ, ◌+◌, ◌*◌, ◌≤◌, Bool, cond, not, ◌||◌, List, ltb, eqb, length, Option, Some, None, Result, Ok, Err}
 use Rattle.word.specs.Word.{number_at}
 use Rattle.params.specs.Limits.{from_numbers}
 use Rattle.params.specs.declared.Params.{Params}
 use Rattle.case_line.specs.declared.sections.Span.{Span}
-use Rattle.case_line.specs.declared.sections.Section.{Section}
-use Rattle.case_line.specs.declared.sections.Section.TheVariants.{Body, Cut}
 use Rattle.case_line.specs.declared.sections.Case.{Case}
-use Rattle.case_line.specs.declared.sections.Parsed.{Parsed}
-use Rattle.case_line.specs.declared.sections.Parsed.TheVariants.{Good, Bad}
+use Rattle.case_line.specs.declared.sections.BadInput.{BadInput}
+use Rattle.case_line.specs.declared.sections.BadInput.TheVariants.{Numbers, Password, Salt, Secret, Data, End}
 
 -- a number's bytes, and the seven numbers of section 1
 abbrev pub number_bytes : ℕ
@@ -49,35 +47,44 @@ abbrev pub count_at : List ℕ → ℕ → ℕ
 count_at s at = number_at number_bytes s at
 
 -- another section: its count is cut or over 255, or its bytes are cut; else its bytes
-unfoldable pub section_at : List ℕ → ℕ → Section
+unfoldable pub section_at : List ℕ → ℕ → Option Span
 section_at s at =
     cond (ltb (length s) (at + number_bytes) || ltb max_section (count_at s at) || ltb (length s) (at + number_bytes + count_at s at))
-    Cut
-    (Body (record { start = at + number_bytes; end = at + number_bytes + count_at s at }))
+    None
+    (Some (record { start = at + number_bytes; end = at + number_bytes + count_at s at }))
 
--- bad input k where section k is cut; else what follows from its bytes
-abbrev pub after : ℕ → Section → (Span → Parsed) → Parsed
-after k Cut f = Bad k
-after k (Body bytes) f = f bytes
+-- the number that a bad input is answered with: the bad section's, or 6
+abbrev pub bad_number : BadInput → ℕ
+bad_number Numbers = 1
+bad_number Password = 2
+bad_number Salt = 3
+bad_number Secret = 4
+bad_number Data = 5
+bad_number End = 6
 
--- 6 for bytes after the last
-unfoldable pub with_data : List ℕ → Span → Span → Span → Span → Parsed
+-- a bad input where this section is cut; else what follows from its bytes
+abbrev pub after : BadInput → Option Span → (Span → Result Case BadInput) → Result Case BadInput
+after bad None f = Err bad
+after bad (Some bytes) f = f bytes
+
+-- bad for bytes after the last
+unfoldable pub with_data : List ℕ → Span → Span → Span → Span → Result Case BadInput
 with_data s password salt secret ad =
-    cond (ltb ad.end (length s)) (Bad 6)
-    (Good (record { params = params_of s; tag = number_of s 7; password = password; salt = salt; secret = secret; ad = ad }))
+    cond (ltb ad.end (length s)) (Err End)
+    (Ok (record { params = params_of s; tag = number_of s 7; password = password; salt = salt; secret = secret; ad = ad }))
 
-unfoldable pub with_secret : List ℕ → Span → Span → Span → Parsed
-with_secret s password salt secret = after 5 (section_at s secret.end) (with_data s password salt secret)
+unfoldable pub with_secret : List ℕ → Span → Span → Span → Result Case BadInput
+with_secret s password salt secret = after Data (section_at s secret.end) (with_data s password salt secret)
 
-unfoldable pub with_salt : List ℕ → Span → Span → Parsed
-with_salt s password salt = after 4 (section_at s salt.end) (with_secret s password salt)
+unfoldable pub with_salt : List ℕ → Span → Span → Result Case BadInput
+with_salt s password salt = after Secret (section_at s salt.end) (with_secret s password salt)
 
-unfoldable pub with_password : List ℕ → Span → Parsed
-with_password s password = after 3 (section_at s password.end) (with_salt s password)
+unfoldable pub with_password : List ℕ → Span → Result Case BadInput
+with_password s password = after Salt (section_at s password.end) (with_salt s password)
 
 -- the sections in their order
-unfoldable pub parsed : List ℕ → Parsed
-parsed s = cond (numbers_bad s) (Bad 1) (after 2 (section_at s numbers_end) (with_password s))
+unfoldable pub parsed : List ℕ → Result Case BadInput
+parsed s = cond (numbers_bad s) (Err Numbers) (after Password (section_at s numbers_end) (with_password s))
 
 -- a span that lies in the input
 pub record Inside (s : List ℕ) (b : Span) : Type 0 where

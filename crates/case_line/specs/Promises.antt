@@ -1,11 +1,12 @@
 -- What the public functions of this crate promise.
-use Rattle.std.specs.Prelude.{List, ◌≡◌, ℕ, ◌≤◌, cond, ltb, length, take}
+use Rattle.std.specs.Prelude.{List, ◌≡◌, ℕ, ◌≤◌, cond, ltb, length, take, Result}
 use Rattle.case_line.specs.Answers.{answer_text, memory_after}
 use Rattle.case_line.specs.Cases.{parsed}
 use Rattle.case_line.specs.Lines.{line_bytes, on_line}
-use Rattle.case_line.specs.declared.sections.Parsed.{Parsed}
+use Rattle.case_line.specs.declared.sections.BadInput.{BadInput}
+use Rattle.case_line.specs.declared.sections.Case.{Case}
 
-pub record ParsePromise (input : List ℕ) (r : Parsed) : Type 0 where
+pub record ParsePromise (input : List ℕ) (r : Result Case BadInput) : Type 0 where
   pub result : r ≡ parsed input
 
 -- A line too short for some answer is left alone, and so are the words. The last two follow from the first two: with them a

@@ -14,16 +14,14 @@ ghost use Rattle.case_line.specs.Promises.{AnswerLinePromise};
 
 use answer::Answer;
 use argon2::hash_password_into_with_memory;
-pub use sections::{Case, Parsed, Section, Span, parse};
+pub use sections::{BadInput, Case, Span, parse};
 
 // The bytes of a span.
 fn part(s: &[u8], b: Span) -> &[u8]
     requires { Inside s.now b }
     ensures { result.now ≡ spec.part s.now b }
 {
-    let start = b.start;
-    let end = b.end;
-    &s[start..end]
+    &s[b.start..b.end]
 }
 
 // The whole hash over the sections of a good case; the tag is out.
@@ -63,6 +61,7 @@ fn answer_case(input: &[u8], case: Case, words: &mut [u64], line: &mut [u8]) -> 
 }
 
 // The line that answers an input, and how many bytes it is. A lent line too short for some answer stays, and so do the words.
+#[tactic(auto, using(crate::proofs::Spans::good_fits))]
 pub fn answer_line(input: &[u8], words: &mut [u64], line: &mut [u8]) -> usize
     ensures { AnswerLinePromise input.now words.old line.old result words.new line.new }
 {
@@ -70,7 +69,7 @@ pub fn answer_line(input: &[u8], words: &mut [u64], line: &mut [u8]) -> usize
         return 0;
     }
     match parse(input) {
-        Parsed::Bad(k) => text::write_number(b"bad input ", k, line),
-        Parsed::Good(case) => answer_case(input, case, words, line),
+        Ok(case) => answer_case(input, case, words, line),
+        Err(bad) => text::write_number(b"bad input ", bad.number(), line),
     }
 }

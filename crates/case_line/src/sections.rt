@@ -1,22 +1,15 @@
 // A case is five sections, each after its count: seven numbers, password, salt, secret, data.
 ghost use Rattle.std.specs.Prelude.{◌≡◌, ◌≤◌};
-ghost use Rattle.case_line.specs.Cases.{numbers, number_of, params_of, section_at, with_password, with_salt, with_secret, with_data};
+ghost use Rattle.case_line.specs.Cases.{numbers, number_of, params_of, section_at, bad_number};
 ghost use Rattle.case_line.specs.Promises.{ParsePromise};
 
 use params::Params;
 
-// A part of the input: from start up to end.
+// A part of the input: from start up to end. No Range, which is not Copy: a case is passed by value, and its parts are read from it.
 #[derive(Clone, Copy)]
 pub struct Span {
     pub start: usize,
     pub end: usize,
-}
-
-// A section's bytes, or what cannot be read.
-#[derive(Clone, Copy)]
-pub enum Section {
-    Body(Span),
-    Cut,
 }
 
 #[derive(Clone, Copy)]
@@ -30,11 +23,24 @@ pub struct Case {
     pub ad: Span,
 }
 
-// A well-formed case, or the first section that is bad.
-#[derive(Clone, Copy)]
-pub enum Parsed {
-    Good(Case),
-    Bad(u32),
+// The first section that is bad; the number is the section's, and End's is of bytes after the last.
+#[derive(Clone, Copy, Debug, PartialEq, Eq)]
+pub enum BadInput {
+    Numbers = 1,
+    Password = 2,
+    Salt = 3,
+    Secret = 4,
+    Data = 5,
+    End = 6,
+}
+
+impl BadInput {
+    // The number that the answer's line says.
+    pub(crate) fn number(self) -> u32
+        ensures { result ≡ bad_number self }
+    {
+        self as u32
+    }
 }
 
 impl Case {
@@ -80,96 +86,53 @@ fn params_of(s: &[u8]) -> Params
     )
 }
 
-// The section at a place: its count, at most 255, and that many bytes.
-fn section_at(s: &[u8], at: usize) -> Section
+// The bytes of the section at a place, behind its count, which is at most 255; none where it is cut.
+#[tactic(auto, unfolding(crate::specs::Cases::section_at))]
+fn section_at(s: &[u8], at: usize) -> Option<Span>
     ensures { result ≡ section_at s.now at }
 {
-    let have = s.len();
-    if have < Case::NUMBER {
-        return Section::Cut;
-    }
-    if have - Case::NUMBER < at {
-        return Section::Cut;
+    let start = at.checked_add(Case::NUMBER)?;
+    if s.len() < start {
+        return None;
     }
     let count = word::load32(s, at);
-    if Case::MAX_SECTION < count {
-        return Section::Cut;
-    }
-    let start = at + Case::NUMBER;
     let bytes = count as usize;
-    if have - start < bytes {
-        return Section::Cut;
+    if Case::MAX_SECTION < count || s.len() - start < bytes {
+        return None;
     }
-    Section::Body(Span {
+    Some(Span {
         start,
         end: start + bytes,
     })
 }
 
-// With the data read: bytes after the last section are bad input 6.
-fn with_data(s: &[u8], password: Span, salt: Span, secret: Span, ad: Span) -> Parsed
-    ensures { result ≡ with_data s.now password salt secret ad }
+// One case, or its first bad section. Section 1 is bad where it is cut, its count is not 7 or the tag length is over 256.
+#[tactic(auto, unfolding(crate::specs::Cases::parsed, crate::specs::Cases::numbers_bad, crate::specs::Cases::with_password, crate::specs::Cases::with_salt, crate::specs::Cases::with_secret, crate::specs::Cases::with_data))]
+pub fn parse(input: &[u8]) -> Result<Case, BadInput>
+    ensures { ParsePromise input.now result }
 {
-    if ad.end < s.len() {
-        return Parsed::Bad(6);
+    if input.len() < Case::NUMBERS_END {
+        return Err(BadInput::Numbers);
     }
-    let params = params_of(s);
-    Parsed::Good(Case {
-        params,
-        tag: number(s, 7),
+    if number(input, 0) != Case::NUMBERS {
+        return Err(BadInput::Numbers);
+    }
+    if Case::MAX_TAG < number(input, 7) as usize {
+        return Err(BadInput::Numbers);
+    }
+    let password = section_at(input, Case::NUMBERS_END).ok_or(BadInput::Password)?;
+    let salt = section_at(input, password.end).ok_or(BadInput::Salt)?;
+    let secret = section_at(input, salt.end).ok_or(BadInput::Secret)?;
+    let ad = section_at(input, secret.end).ok_or(BadInput::Data)?;
+    if ad.end < input.len() {
+        return Err(BadInput::End);
+    }
+    Ok(Case {
+        params: params_of(input),
+        tag: number(input, 7),
         password,
         salt,
         secret,
         ad,
     })
-}
-
-// With the secret read: the data is section 5.
-fn with_secret(s: &[u8], password: Span, salt: Span, secret: Span) -> Parsed
-    ensures { result ≡ with_secret s.now password salt secret }
-{
-    match section_at(s, secret.end) {
-        Section::Cut => Parsed::Bad(5),
-        Section::Body(ad) => with_data(s, password, salt, secret, ad),
-    }
-}
-
-// With the salt read: the secret is section 4.
-fn with_salt(s: &[u8], password: Span, salt: Span) -> Parsed
-    ensures { result ≡ with_salt s.now password salt }
-{
-    match section_at(s, salt.end) {
-        Section::Cut => Parsed::Bad(4),
-        Section::Body(secret) => with_secret(s, password, salt, secret),
-    }
-}
-
-// With the password read: the salt is section 3.
-fn with_password(s: &[u8], password: Span) -> Parsed
-    ensures { result ≡ with_password s.now password }
-{
-    match section_at(s, password.end) {
-        Section::Cut => Parsed::Bad(3),
-        Section::Body(salt) => with_salt(s, password, salt),
-    }
-}
-
-// One case, or its first bad section: 1 where it is cut, its count is not 7 or the tag length is over 256; then the password.
-#[tactic(auto, unfolding(crate::specs::Cases::parsed, crate::specs::Cases::numbers_bad))]
-pub fn parse(input: &[u8]) -> Parsed
-    ensures { ParsePromise input.now result }
-{
-    if input.len() < Case::NUMBERS_END {
-        return Parsed::Bad(1);
-    }
-    if number(input, 0) != Case::NUMBERS {
-        return Parsed::Bad(1);
-    }
-    if Case::MAX_TAG < number(input, 7) as usize {
-        return Parsed::Bad(1);
-    }
-    match section_at(input, Case::NUMBERS_END) {
-        Section::Cut => Parsed::Bad(2),
-        Section::Body(password) => with_password(input, password),
-    }
 }
