@@ -1,13 +1,17 @@
 -- A text at the start of a line, one byte more; and the hex digits of one byte more. Assumes nothing.
-use Prim.Native.Nat.{ℕ, suc, ◌+◌, ◌/◌, ◌%◌, ◌≤◌, ◌<◌}
+use Prim.Native.Nat.{ℕ, suc, ◌+◌, ◌*◌, ◌/◌, ◌%◌, ◌≤◌, ◌<◌}
 use mathlib.Core.List.{List, [], ◌∷◌, ◌++◌, append_assoc}
 use mathlib.Core.Path.{◌≡◌, refl, sym, ap, ◌∙◌}
 use native.Mathlib.Numerals.{add-one}
 use native.Mathlib.Omega.{arith}
 use borrow.Author.Tests.{lt-ltb, le-ltb}
 use lib.ListN.{length, take, drop, get_or, set, length-append, length-drop}
-use lib.Seq.{drop-cons, set-append_seam, take_all, take-suc}
-use Rattle.hex_text.specs.Hex.{hex_of, hex_digits}
+use lib.Seq.{drop-cons, drop-drop, set-append_seam, take_all, take-suc}
+use mathlib.Core.Bool.{true}
+use borrow.Author.Tests.{le-leb}
+use Rattle.hex_text.specs.Hex.{hex_of, hex_digits, fits}
+use Rattle.hex_text.specs.Promises.{WritePromise}
+use Rattle.hex_text.proofs.Text.{length_digits}
 use Rattle.case_line.specs.Lines.{tag_word, newline, tag_text, numbered_text, on_line, Written}
 
 -- all of a list was copied to the start of a line
@@ -96,3 +100,17 @@ one_count words n h = rw (lt-ltb n 10 h) (simp length-append (omega arith))
 
 pub two_count : (words : List ℕ) (n : ℕ) → 10 ≤ n → length (numbered_text words n) ≡ length words + 3
 two_count words n h = rw (le-ltb n 10 h) (simp length-append (omega arith))
+
+-- the line of a tag: the digits were written behind `tag `, and the newline is set after them
+pub tag_line : (tag line word text : List ℕ) (n : ℕ) → word ≡ tag_word → WritePromise tag (drop 4 line) n text → 5 + 2 * length tag ≤ length line
+    → Written (tag_text tag) line (word ++ set text n 10) (4 + n + 1)
+tag_line tag line word text n e p room =
+    let y : fits tag (drop 4 line) ≡ true = le-leb (2 * length tag) (length (drop 4 line)) (omega (arith, length-drop 4 line)) in
+    let r : n ≡ length (hex_digits tag) = rw y at p.count ∙ sym (length_digits tag) in
+    let t : text ≡ on_line (hex_digits tag) (drop 4 line) = rw (y, ← length_digits tag) at p.content in
+    let past : 4 + length (hex_digits tag ++ newline) ≡ length (tag_text tag) = omega arith in
+    record {
+      bytes = rw (e, t, r, push (hex_digits tag) (drop 4 line) 10 (omega (arith, length-drop 4 line, length_digits tag)))
+          (ap (λ (l : List ℕ). tag_text tag ++ l) (drop-drop (length (hex_digits tag ++ newline)) 4 line ∙ ap (λ (k : ℕ). drop k line) past));
+      count = simp length-append (omega (arith, r));
+    }

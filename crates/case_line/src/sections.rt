@@ -73,6 +73,7 @@ fn number(s: &[u8], k: usize) -> u32
 }
 
 // The parameters are the first six numbers.
+#[tactic(auto, unfolding(crate::specs::Cases::params_of))]
 fn params_of(s: &[u8]) -> Params
     ensures { result ≡ params_of s.now }
 {
@@ -111,13 +112,10 @@ fn section_at(s: &[u8], at: usize) -> Option<Span>
 pub fn parse(input: &[u8]) -> Result<Case, BadInput>
     ensures { ParsePromise input.now result }
 {
-    if input.len() < Case::NUMBERS_END {
-        return Err(BadInput::Numbers);
-    }
-    if number(input, 0) != Case::NUMBERS {
-        return Err(BadInput::Numbers);
-    }
-    if Case::MAX_TAG < number(input, 7) as usize {
+    if input.len() < Case::NUMBERS_END
+        || number(input, 0) != Case::NUMBERS
+        || Case::MAX_TAG < number(input, 7) as usize
+    {
         return Err(BadInput::Numbers);
     }
     let password = section_at(input, Case::NUMBERS_END).ok_or(BadInput::Password)?;

@@ -27,16 +27,9 @@ pub(crate) fn write_tag(tag: &[u8], line: &mut [u8]) -> usize
     ensures { Written (tag_text tag.now) line.old line.new result }
 {
     let word = b"tag ";
-    let mut end = word.len();
-    line[..end].copy_from_slice(word);
-    let mut i = 0;
-    while i < tag.len() {
-        let pair = hex_text::digits(tag[i]);
-        line[end] = pair[0];
-        line[end + 1] = pair[1];
-        end += 2;
-        i += 1;
-    }
-    line[end] = b'\n';
-    end + 1
+    let (front, rest) = line.split_at_mut(word.len());
+    front.copy_from_slice(word);
+    let count = hex_text::write(tag, rest);
+    rest[count] = b'\n';
+    word.len() + count + 1
 }
