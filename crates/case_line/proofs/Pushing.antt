@@ -39,10 +39,6 @@ renamed e w = rw e at w
 pub same_length : {t d l : List ℕ} {i : ℕ} → Written t d l i → i ≤ length d → length l ≡ length d
 same_length {t} {d} {l} {i} w h = ap length w.bytes ∙ simp (length-append, length-drop) (omega (arith, w.count))
 
--- the text is in the line, and is all of the first bytes that its count names
-pub within : {t d l : List ℕ} {i : ℕ} → Written t d l i → i ≤ length l
-within {t} {d} {l} {i} w = omega (arith, w.count, ap length w.bytes, length-append t (drop (length t) d))
-
 hex_snoc : (bs : List ℕ) (b : ℕ) → hex_digits (bs ++ (b ∷ [])) ≡ hex_digits bs ++ hex_of b
 unfolding hex_digits
 hex_snoc [] b = refl

@@ -13,7 +13,7 @@ use Rattle.case_line.specs.Cases.{Inside, Fits, number_bytes, numbers, numbers_e
 use Rattle.case_line.specs.declared.sections.Span.{Span}
 use Rattle.case_line.specs.declared.sections.Case.{Case}
 use Rattle.case_line.specs.declared.sections.BadInput.{BadInput}
-use Rattle.case_line.specs.declared.sections.BadInput.TheVariants.{Numbers, Password, Salt, Secret, Data, End}
+use Rattle.case_line.specs.declared.sections.BadInput.TheVariants.{Password, Salt, Secret, Data}
 
 -- what stands where a test fails or holds
 pub tested : {A : Type 0} (P : A → Type 0) (test : Bool) {x y : A} → P x → (test ≡ false → P y) → P (cond test x y)

@@ -31,19 +31,11 @@ fn hash_case(input: &[u8], case: Case, words: &mut [u64], out: &mut [u8]) -> Ans
         (spec.part input.now case.secret) (spec.part input.now case.ad) words.old out.old
         result words.new out.new }
 {
-    let params = case.params;
     let password = part(input, case.password);
     let salt = part(input, case.salt);
     let secret = part(input, case.secret);
     let ad = part(input, case.ad);
-    hash_password_into_with_memory(params, password, salt, secret, ad, words, out)
-}
-
-// Room for the longest tag.
-fn zeros() -> [u8; Case::MAX_TAG]
-    ensures { result ≡ replicate max_tag 0 }
-{
-    [0; Case::MAX_TAG]
+    hash_password_into_with_memory(case.params, password, salt, secret, ad, words, out)
 }
 
 // The line that answers a good case: its tag, or the number of the refusal.
@@ -51,17 +43,17 @@ fn answer_case(input: &[u8], case: Case, words: &mut [u64], line: &mut [u8]) -> 
     requires { Fits input.now case × (line_bytes ≤ length line.old) }
     ensures { spec.Answered (spec.hash_of input.now case words.old) line.old result words.new line.new }
 {
-    let mut tag = zeros();
-    let n = case.tag as usize;
-    let answer = hash_case(input, case, words, &mut tag[..n]).number();
+    let mut room = [0; Case::MAX_TAG];
+    let tag = &mut room[..case.tag as usize];
+    let answer = hash_case(input, case, words, &mut *tag).number();
     if answer != 0 {
         return text::write_number(b"refused ", answer, line);
     }
-    text::write_tag(&tag[..n], line)
+    text::write_tag(tag, line)
 }
 
 // The line that answers an input, and how many bytes it is. A lent line too short for some answer stays, and so do the words.
-#[tactic(auto, using(crate::proofs::Spans::good_fits))]
+// A lent line and a count, where there could be a String: no library has a heap, and the promise AnswerLinePromise says both.
 pub fn answer_line(input: &[u8], words: &mut [u64], line: &mut [u8]) -> usize
     ensures { AnswerLinePromise input.now words.old line.old result words.new line.new }
 {

@@ -3,6 +3,7 @@ ghost use Rattle.std.specs.Prelude.{◌+◌, ◌*◌, ◌≤◌, ◌<◌, length
 ghost use Rattle.case_line.specs.Lines.{Written, numbered_text, tag_text};
 
 // Words, a number under 100 in decimal, and a newline, at the start of the line; how many bytes they are.
+// The digits by hand, since std's writer into a slice says nothing of the bytes that it wrote there.
 #[tactic(auto, using(crate::proofs::Pushing::one_bytes, crate::proofs::Pushing::two_bytes, crate::proofs::Pushing::one_count, crate::proofs::Pushing::two_count))]
 pub(crate) fn write_number(words: &[u8], n: u32, line: &mut [u8]) -> usize
     requires { (n < 100) × (length words.now + 3 ≤ length line.old) }
