@@ -1,2 +1,1 @@
-mod Successes
 mod TwoReads

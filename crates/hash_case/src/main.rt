@@ -14,31 +14,18 @@ use std::io::{Read, Write};
 // The blocks that the program lends.
 const BLOCKS: usize = 56;
 
-// Reads into the buffer from a place on; how many bytes came. A read that fails is the end of the input.
-fn read_at<R: Read>(input: &mut R, buf: &mut [u8], at: usize) -> usize
-    requires { at < length buf.old }
-    ensures front { take at buf.new ≡ take at buf.old }
-    ensures within { at + result ≤ length buf.new }
-    ensures bytes { Consumes (R.remaining input.old) (R.remaining input.new) (take result (drop at buf.new)) }
-{
-    match input.read(&mut buf[at..]) {
-        Ok(n) => n,
-        Err(_) => 0,
-    }
-}
-
-// Reads until the buffer is full or the input ends; how many bytes of the input stand at the start of the buffer.
+// Reads until the buffer is full, the input ends or a read fails; how many bytes of the input stand at the start of the buffer.
+// No read_exact, which says nothing of a buffer that it does not fill.
 fn read_full<R: Read>(input: &mut R, buf: &mut [u8]) -> usize
     ensures within { result ≤ length buf.new }
     ensures bytes { Consumes (R.remaining input.old) (R.remaining input.new) (take result buf.new) }
 {
     let mut done = 0;
     while done < buf.len() {
-        let n = read_at(input, buf, done);
-        if n == 0 {
-            return done;
+        match input.read(&mut buf[done..]) {
+            Ok(0) | Err(_) => return done,
+            Ok(n) => done += n,
         }
-        done += n;
     }
     done
 }
