@@ -1,114 +1,115 @@
 // A packed list (oracle/pack): a count and so many cases, of numbers, 8 bytes little-endian, and of texts behind their counts.
-ghost use Rattle.std.specs.Prelude.{◌≤◌, length};
-
-use std::io;
+// A case begins with its line in the recorded list.
+use params::{Configured, Params};
 use std::io::{Read, Write};
+use std::rt::Files;
+use std::{fs, io};
 
-// The numbers that a case begins with; the first is its line in the recorded list.
-pub(crate) const NUMBERS: usize = 12;
+// The most bytes of a text.
+pub(crate) const MOST: usize = 256;
 
-pub(crate) const LINE: usize = 0;
-
-// A text of a case: its bytes, and how many they are.
+// The numbers that a case of the hashes or of the jobs begins with, behind its line.
 #[derive(Clone, Copy)]
-pub(crate) struct Text {
-    pub(crate) bytes: [u8; Text::MOST],
-    pub(crate) count: usize,
+pub(crate) struct Case {
+    pub(crate) kind: u64,
+    pub(crate) params: Params,
+    // The tag's length.
+    pub(crate) length: u64,
+    // How many words are lent, and the seed that makes them dirty.
+    pub(crate) words: u64,
+    pub(crate) seed: u64,
+    // The number of the answer.
+    pub(crate) answer: u64,
 }
 
-impl Text {
-    pub(crate) const MOST: usize = 256;
-
-    // The text of the first n bytes, at most of all.
-    pub(crate) fn of(bytes: [u8; Text::MOST], n: u64) -> Text
-        ensures { result.count ≤ length result.bytes }
-    {
-        let most = Text::MOST;
-        if (most as u64) < n {
-            return Text { bytes, count: most };
-        }
-        Text {
-            bytes,
-            count: n as usize,
+impl Case {
+    // The next numbers.
+    pub(crate) fn next<R: Read>(list: &mut R) -> Case {
+        let kind = number(list);
+        let params = Params {
+            algorithm: low(number(list)),
+            version: low(number(list)),
+            memory: low(number(list)),
+            passes: low(number(list)),
+            lanes: low(number(list)),
+            configured: configured(number(list)),
+        };
+        Case {
+            kind,
+            params,
+            length: number(list),
+            words: number(list),
+            seed: number(list),
+            answer: number(list),
         }
     }
 }
 
-// Reads until the bytes are full, the list ends or a read fails.
-fn read_full<R: Read>(list: &mut R, bytes: &mut [u8]) {
-    let mut done = 0;
-    while done < bytes.len() {
-        match list.read(&mut bytes[done..]) {
-            Ok(0) => return,
-            Ok(n) => done += n,
-            Err(_) => return,
-        }
+// A configured length: 0 is absent, else it is one more.
+fn configured(n: u64) -> Configured {
+    match n.checked_sub(1) {
+        None => Configured::Absent,
+        Some(n) => Configured::Length(low(n)),
     }
 }
 
-// The next number; 0 behind the list's end.
+// The next number; behind the list's end its bytes are 0.
 pub(crate) fn number<R: Read>(list: &mut R) -> u64 {
     let mut bytes = [0u8; 8];
-    read_full(list, &mut bytes);
-    word::load(&bytes, 0)
+    let _ = list.read_exact(&mut bytes);
+    u64::from_le_bytes(bytes)
 }
 
-// The next numbers.
-pub(crate) fn numbers<R: Read>(list: &mut R) -> [u64; NUMBERS] {
-    let mut numbers = [0u64; NUMBERS];
-    for k in 0..NUMBERS {
-        numbers[k] = number(list);
-    }
-    numbers
+// The next text, in a room of zeros; behind the list's end its bytes are 0.
+pub(crate) fn next_text<'a, R: Read>(list: &mut R, room: &'a mut [u8; MOST]) -> &'a [u8] {
+    let text = front(room, number(list));
+    let _ = list.read_exact(text);
+    text
 }
 
-// As many of the words as the number says, at most all of them.
-pub(crate) fn count_words(n: u64, words: &[u64]) -> usize
-    ensures { result ≤ length words.now }
-{
-    if (words.len() as u64) < n {
-        return words.len();
-    }
-    n as usize
+// Whether the next text is these bytes.
+pub(crate) fn is_next<R: Read>(list: &mut R, bytes: &[u8]) -> bool {
+    let mut room = [0u8; MOST];
+    bytes == next_text(list, &mut room)
+}
+
+// As many elements as the number says, at most all of them.
+pub(crate) fn front<T>(all: &mut [T], n: u64) -> &mut [T] {
+    let count = all.len().min(n as usize);
+    &mut all[..count]
 }
 
 // The low half of a number.
 pub(crate) fn low(n: u64) -> u32 {
-    (n % 0x1_0000_0000) as u32
+    word::low_half(n) as u32
 }
 
-// The next text.
-pub(crate) fn next_text<R: Read>(list: &mut R) -> Text
-    ensures { result.count ≤ length result.bytes }
+// All cases of a list, by whether each agrees with what is recorded; a list that cannot be opened has none.
+pub(crate) fn replay<F: Files, W: Write, A: FnMut(&mut F::File) -> bool>(
+    rt: &F,
+    out: &mut W,
+    name: &str,
+    mut agrees: A,
+) -> io::Result<()>
+    requires { A.IsAlwaysCallable agrees }
 {
-    let length = number(list);
-    let empty = Text::of([0u8; Text::MOST], length);
-    let mut bytes = empty.bytes;
-    let room = empty.count;
-    read_full(list, &mut bytes[..room]);
-    Text::of(bytes, length)
-}
-
-// Whether the bytes are those of the text.
-pub(crate) fn same(bytes: &[u8], text: Text) -> bool
-    requires { text.count ≤ length text.bytes }
-{
-    let expected = text.bytes;
-    let count = text.count;
-    bytes == &expected[..count]
-}
-
-// A line for a case that differs, by its line in the recorded list.
-pub(crate) fn differs<W: Write>(out: &mut W, list: &str, line: u64) -> io::Result<()> {
-    writeln!(out, "{list} differs: line {line}")
+    let Ok(mut list) = fs::open(rt, name) else {
+        return report(out, name, 0, 0);
+    };
+    let recorded = number(&mut list);
+    let mut agree = 0;
+    for _ in 0..recorded {
+        let line = number(&mut list);
+        if agrees(&mut list) {
+            agree += 1;
+        } else {
+            writeln!(out, "{name} differs: line {line}")?;
+        }
+    }
+    report(out, name, recorded, agree)
 }
 
 // The line of a list.
-pub(crate) fn report<W: Write>(
-    out: &mut W,
-    list: &str,
-    recorded: u64,
-    agree: u64,
-) -> io::Result<()> {
-    writeln!(out, "{list} {recorded} recorded, {agree} agree")
+fn report<W: Write>(out: &mut W, name: &str, recorded: u64, agree: u64) -> io::Result<()> {
+    writeln!(out, "{name} {recorded} recorded, {agree} agree")
 }

@@ -1,0 +1,5 @@
+use Rattle.std.proofs.Common.{◌≤◌}
+use Rattle.replay.proofs.list.replay.Given as goal
+
+abbrev pub invariant-loop : goal.invariant-loop
+invariant-loop g l = goal.A-IsAlwaysCallable g l.agrees × (l.agree ≤ l.counter)
