@@ -12,8 +12,9 @@ ghost use Rattle.case_line.specs.Cases.{max_tag, Inside, Fits};
 ghost use Rattle.case_line.specs.Lines.{line_bytes};
 ghost use Rattle.case_line.specs.Promises.{AnswerLinePromise};
 
-use answer::Answer;
+use answer::{Refusal, number};
 use argon2::hash_password_into_with_memory;
+use params::Inputs;
 pub use sections::{BadInput, Case, Span, parse};
 
 // The bytes of a span.
@@ -25,17 +26,19 @@ fn part(s: &[u8], b: Span) -> &[u8]
 }
 
 // The whole hash over the sections of a good case; the tag is out.
-fn hash_case(input: &[u8], case: Case, words: &mut [u64], out: &mut [u8]) -> Answer
+fn hash_case(input: &[u8], case: Case, words: &mut [u64], out: &mut [u8]) -> Result<(), Refusal>
     requires { Fits input.now case }
     ensures { HashPromise case.params (spec.part input.now case.password) (spec.part input.now case.salt)
         (spec.part input.now case.secret) (spec.part input.now case.ad) words.old out.old
         result words.new out.new }
 {
-    let password = part(input, case.password);
-    let salt = part(input, case.salt);
-    let secret = part(input, case.secret);
-    let ad = part(input, case.ad);
-    hash_password_into_with_memory(case.params, password, salt, secret, ad, words, out)
+    let inputs = Inputs {
+        password: part(input, case.password),
+        salt: part(input, case.salt),
+        secret: part(input, case.secret),
+        ad: part(input, case.ad),
+    };
+    hash_password_into_with_memory(case.params, inputs, words, out)
 }
 
 // The line that answers a good case: its tag, or the number of the refusal.
@@ -45,11 +48,11 @@ fn answer_case(input: &[u8], case: Case, words: &mut [u64], line: &mut [u8]) -> 
 {
     let mut room = [0; Case::MAX_TAG];
     let tag = &mut room[..case.tag as usize];
-    let answer = hash_case(input, case, words, &mut *tag).number();
-    if answer != 0 {
-        return text::write_number(b"refused ", answer, line);
+    let answer = hash_case(input, case, words, tag);
+    match answer {
+        Ok(()) => text::write_tag(tag, line),
+        Err(_) => text::write_number(b"refused ", number(answer), line),
     }
-    text::write_tag(tag, line)
 }
 
 // The line that answers an input, and how many bytes it is. A lent line too short for some answer stays, and so do the words.
