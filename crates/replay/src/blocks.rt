@@ -1,5 +1,6 @@
 // Compressions of blocks that a rule makes (oracle/blocks has the same rules in Rust).
 use block::Block;
+use lent::xorshift;
 use std::io;
 use std::io::Write;
 
@@ -12,18 +13,11 @@ const CHAIN: u32 = 1000;
 // The generator's first state.
 const SEED: u64 = 88_172_645_463_325_252;
 
-// Marsaglia's xorshift of 64 bits, with 13, 7 and 17.
-fn next(seed: u64) -> u64 {
-    let a = seed ^ (seed << 13);
-    let b = a ^ (a >> 7);
-    b ^ (b << 17)
-}
-
 // The block of the next words that are drawn.
 fn draw(state: &mut u64) -> Block {
     let mut block = Block::new();
     for word in &mut block.words {
-        *state = next(*state);
+        *state = xorshift(*state);
         *word = *state;
     }
     block

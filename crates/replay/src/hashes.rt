@@ -1,7 +1,7 @@
 // The recorded whole hashes, fillings and variable-length hashes.
 use crate::list;
 use crate::list::{Case, MOST, front, is_next, next_text};
-use answer::Answer;
+use answer::{Refusal, number};
 use argon2::{fill_memory, hash_password_into_with_memory};
 use blake2b_long::blake2b_long;
 use block::Block;
@@ -31,31 +31,21 @@ impl From<u64> for Call {
 const WORDS: usize = 516 * Block::WORDS;
 
 // The answer of a case's call.
-fn called(case: Case, inputs: Inputs, words: &mut [u64], out: &mut [u8]) -> Answer {
+fn called(case: Case, inputs: Inputs, words: &mut [u64], out: &mut [u8]) -> Result<(), Refusal> {
     match Call::from(case.kind) {
-        Call::Hash => hash_password_into_with_memory(
-            case.params,
-            inputs.password,
-            inputs.salt,
-            inputs.secret,
-            inputs.ad,
-            words,
-            out,
-        ),
-        Call::Fill => fill_memory(
-            case.params,
-            inputs.password,
-            inputs.salt,
-            inputs.secret,
-            inputs.ad,
-            words,
-        ),
+        Call::Hash => hash_password_into_with_memory(case.params, inputs, words, out),
+        Call::Fill => fill_memory(case.params, inputs, words),
         Call::Long => blake2b_long(inputs.password, out),
     }
 }
 
 // The answer of a case's call, whose inputs are the next texts.
-fn answered<R: Read>(list: &mut R, case: Case, words: &mut [u64], out: &mut [u8]) -> Answer {
+fn answered<R: Read>(
+    list: &mut R,
+    case: Case,
+    words: &mut [u64],
+    out: &mut [u8],
+) -> Result<(), Refusal> {
     let mut password = [0; MOST];
     let mut salt = [0; MOST];
     let mut secret = [0; MOST];
@@ -80,7 +70,7 @@ fn agrees<R: Read>(list: &mut R, memory: &mut [u64]) -> bool {
     let answer = answered(list, case, words, out);
     let output = is_next(list, out);
     let left = is_next(list, &lent::digest(words));
-    answer.number() as u64 == case.answer && output && left
+    number(answer) as u64 == case.answer && output && left
 }
 
 // All cases.

@@ -4,7 +4,6 @@ use crate::list::{Case, MOST, front, is_next, low, number};
 use argon2::{finish, step};
 use block::Block;
 use job::Job;
-use params::Configured;
 use position::LaneNumber;
 use std::io;
 use std::io::{Read, Write};
@@ -51,11 +50,8 @@ fn next_job<R: Read>(list: &mut R, case: Case) -> Job {
 }
 
 // A configured length: absent is 0, else it is one more.
-fn chosen(configured: Configured) -> u64 {
-    match configured {
-        Configured::Absent => 0,
-        Configured::Length(n) => n as u64 + 1,
-    }
+fn chosen(configured: Option<u32>) -> u64 {
+    configured.map_or(0, |n| n as u64 + 1)
 }
 
 // All numbers of a job, in its order.
@@ -87,9 +83,10 @@ fn step_agrees<R: Read>(
     words: &mut [u64],
     lane: LaneNumber,
 ) -> bool {
-    let stepped = step(job, words, lane);
-    let handed = is_next(list, &lent::digest(&figures(stepped.job)));
-    stepped.answer.number() as u64 == case.answer && handed
+    let mut after = job;
+    let answer = step(&mut after, words, lane);
+    let handed = is_next(list, &lent::digest(&figures(after)));
+    answer::number(answer) as u64 == case.answer && handed
 }
 
 // Whether a finish of a case's job has the recorded answer and output, over an output that the seed made dirty.
@@ -99,7 +96,7 @@ fn finish_agrees<R: Read>(list: &mut R, case: Case, job: Job, words: &[u64], len
     lent::dirty_bytes(case.seed, out);
     let answer = finish(job, words, out);
     let output = is_next(list, out);
-    answer.number() as u64 == case.answer && output
+    answer::number(answer) as u64 == case.answer && output
 }
 
 // Whether the call and all lent words of the next case are as recorded, over memory that the seed made dirty.

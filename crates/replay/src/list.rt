@@ -1,6 +1,6 @@
 // A packed list (oracle/pack): a count and so many cases, of numbers, 8 bytes little-endian, and of texts behind their counts.
 // A case begins with its line in the recorded list.
-use params::{Configured, Params};
+use params::Params;
 use std::io::{Read, Write};
 use std::rt::Files;
 use std::{fs, io};
@@ -46,11 +46,8 @@ impl Case {
 }
 
 // A configured length: 0 is absent, else it is one more.
-fn configured(n: u64) -> Configured {
-    match n.checked_sub(1) {
-        None => Configured::Absent,
-        Some(n) => Configured::Length(low(n)),
-    }
+fn configured(n: u64) -> Option<u32> {
+    n.checked_sub(1).map(low)
 }
 
 // The next number; behind the list's end its bytes are 0.

@@ -1,10 +1,10 @@
 // The examples of RFC 9106, section 5, and other parameters: by the whole hash, and by start, steps in several orders of
 // lanes and finish. The lent memory is dirty, another way each time, and longer than is needed.
 use crate::{write_bytes, write_hex};
-use argon2::{finish, hash_password_into_with_memory, start};
+use argon2::{Job, finish, hash_password_into_with_memory, start};
 use block::Block;
 use initial::initial_hash;
-use lent::digest;
+use lent::{digest, xorshift};
 use params::{Inputs, Params};
 use std::io;
 use std::io::Write;
@@ -76,18 +76,11 @@ impl Order {
         let mut plan = [0; TURNS];
         let mut random = self.number() as u64 + 1;
         for (turn, lane) in plan.iter_mut().enumerate() {
-            random = next(random);
+            random = xorshift(random);
             *lane = self.lane(turn as u32, lanes, random);
         }
         plan
     }
-}
-
-// Marsaglia's xorshift of 64 bits, with 13, 7 and 17.
-fn next(seed: u64) -> u64 {
-    let a = seed ^ (seed << 13);
-    let b = a ^ (a >> 7);
-    b ^ (b << 17)
 }
 
 // How many words a run needs.
@@ -100,7 +93,7 @@ fn dirty(params: Params, words: &mut [u64], seed: u64) {
     let needed = needed(params);
     let mut x = seed;
     for (i, word) in words.iter_mut().enumerate() {
-        x = next(x);
+        x = xorshift(x);
         *word = if i < needed { x } else { MARK };
     }
 }
@@ -140,15 +133,7 @@ fn write_params<W: Write>(to: &mut W, params: Params) -> io::Result<()> {
 // By the whole hash.
 fn at_once<W: Write>(to: &mut W, params: Params, words: &mut [u64]) -> io::Result<()> {
     let mut tag = [0u8; TAG];
-    hash_password_into_with_memory(
-        params,
-        INPUTS.password,
-        INPUTS.salt,
-        INPUTS.secret,
-        INPUTS.ad,
-        words,
-        &mut tag,
-    );
+    let _ = hash_password_into_with_memory(params, INPUTS, words, &mut tag);
     write_params(to, params)?;
     to.write_all(b"whole ")?;
     write_run(to, params, words, &tag)
@@ -162,17 +147,9 @@ fn in_turns<W: Write>(
     words: &mut [u64],
 ) -> io::Result<()> {
     let mut tag = [0u8; TAG];
-    let s = start(
-        params,
-        TAG,
-        INPUTS.password,
-        INPUTS.salt,
-        INPUTS.secret,
-        INPUTS.ad,
-        words,
-    );
-    let job = play(s.job, words, &order.schedule(params.lanes));
-    finish(job, words, &mut tag);
+    let mut job = start(params, TAG, INPUTS, words).unwrap_or(Job::zeros());
+    play(&mut job, words, &order.schedule(params.lanes));
+    let _ = finish(job, words, &mut tag);
     write_params(to, params)?;
     write!(to, "order {} ", order.number())?;
     write_run(to, params, words, &tag)
@@ -182,15 +159,7 @@ fn in_turns<W: Write>(
 fn write_initial<W: Write>(to: &mut W, params: Params) -> io::Result<()> {
     write_params(to, params)?;
     to.write_all(b"initial ")?;
-    let h = initial_hash(
-        params,
-        TAG,
-        INPUTS.password,
-        INPUTS.salt,
-        INPUTS.secret,
-        INPUTS.ad,
-    );
-    write_hex(to, &h)
+    write_hex(to, &initial_hash(params, TAG, INPUTS))
 }
 
 // By the whole hash and in every order.

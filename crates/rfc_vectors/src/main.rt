@@ -5,7 +5,7 @@
 
 mod argon;
 
-use answer::Answer;
+use answer::Refusal;
 use blake2b::hash;
 use blake2b_long::blake2b_long;
 use hex_text::digits;
@@ -38,7 +38,7 @@ pub(crate) fn write_hex<W: Write>(to: &mut W, bytes: &[u8]) -> io::Result<()> {
 }
 
 // The hashes of one message, one line for each length that there is room for.
-fn outputs<W: Write, H: Fn(&[u8], &mut [u8]) -> Answer>(
+fn outputs<W: Write, H: Fn(&[u8], &mut [u8]) -> Result<(), Refusal>>(
     to: &mut W,
     name: &str,
     hash: H,
@@ -50,7 +50,7 @@ fn outputs<W: Write, H: Fn(&[u8], &mut [u8]) -> Answer>(
     let mut room = [0u8; 1024];
     for n in lengths {
         if let Some(out) = room.get_mut(..*n) {
-            hash(message, out);
+            let _ = hash(message, out);
             write!(to, "{name} {} {n} ", message.len())?;
             write_hex(to, out)?;
         }
@@ -66,7 +66,7 @@ fn front(bytes: &[u8], n: usize) -> &[u8] {
 // RFC 7693, appendix A.
 fn appendix_a<W: Write>(to: &mut W) -> io::Result<()> {
     let mut out = [0u8; 64];
-    hash(b"abc", &mut out);
+    let _ = hash(b"abc", &mut out);
     to.write_all(b"abc ")?;
     write_hex(to, &out)
 }
