@@ -20,6 +20,7 @@ pub fn is_addressed(params: Params, pass: u32, slice: u32) -> bool
 }
 
 // The address block with this counter: the compression, twice with a zero block, of the segment's numbers.
+#[tactic(auto, using(crate::proofs::Beginning::zeros_beginning), unfolding(crate::specs::Address::address_block))]
 pub fn address_block(params: Params, segment: Segment, counter: u32) -> Block
     ensures { AddressBlockPromise params segment.pass segment.slice segment.lane counter result }
 {

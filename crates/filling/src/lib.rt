@@ -20,6 +20,9 @@ use position::{
 };
 use std::ops::Range;
 
+// The words and their parameters are passed side by side: in a struct over the lent words each method had to promise, beside what it writes, that it
+// keeps the reference and the parameters.
+
 // Word 0 of the previous block.
 fn previous_word(words: &[u64], params: Params, segment: Segment, block: u32) -> u64
     requires { Fillable params segment.pass segment.slice segment.lane.0 block (length words.now) }
@@ -156,6 +159,7 @@ pub fn fill_blocks(words: &mut [u64], params: Params, segment: Segment, blocks: 
 }
 
 // Fills a slice: the segment of every lane.
+#[tactic(auto, using(memory::proofs::Loop::leads_zero, memory::proofs::Loop::leads_next, memory::proofs::Loop::leads_last), unfolding(crate::specs::Filling::fill_segment, crate::specs::Filling::fill_slice))]
 fn fill_slice(words: &mut [u64], params: Params, pass: u32, slice: u32)
     requires { Lent params (length words.old) × (pass < params.passes) × (slice < slices) }
     ensures { words.new ≡ spec.fill_slice params pass slice words.old }
@@ -172,6 +176,7 @@ fn fill_slice(words: &mut [u64], params: Params, pass: u32, slice: u32)
 }
 
 // Fills a pass: every slice.
+#[tactic(auto, using(memory::proofs::Loop::leads_zero, memory::proofs::Loop::leads_next, memory::proofs::Loop::leads_last), unfolding(crate::specs::Filling::fill_pass))]
 fn fill_pass(words: &mut [u64], params: Params, pass: u32)
     requires { Lent params (length words.old) × (pass < params.passes) }
     ensures { words.new ≡ spec.fill_pass params pass words.old }
@@ -182,6 +187,7 @@ fn fill_pass(words: &mut [u64], params: Params, pass: u32)
 }
 
 // Fills all: every pass. All words stay if they are not lent for these parameters.
+#[tactic(auto, using(memory::proofs::Lent::lent_fact, memory::proofs::Loop::leads_zero, memory::proofs::Loop::leads_next, memory::proofs::Loop::leads_last), unfolding(crate::specs::Filling::fill_all))]
 pub fn fill_all(words: &mut [u64], params: Params)
     ensures { FillAllPromise words.old params words.new }
 {

@@ -1,11 +1,9 @@
 -- `filling::previous_word` meets its contract: the word that stands first in the block. Assumes nothing.
-use Prim.Native.Nat.{ℕ, ◌+◌, ◌*◌}
-use mathlib.Core.Path.{◌≡◌, sym, ap, ◌∙◌}
+use Prim.Native.Nat.{ℕ}
+use mathlib.Core.Path.{sym, ap, ◌∙◌}
 use native.Mathlib.Omega.{arith}
 use lib.ListN.{get_or}
-use Rattle.block.specs.Block.{block_words}
 use Rattle.position.proofs.Columns.{previous_index_lem}
-use Rattle.filling.specs.Filling.{previous_index}
 use Rattle.filling.proofs.Inner.{previous_room}
 use Rattle.memory.proofs.Memory.{block_at}
 use Rattle.filling.proofs.previous_word.Goals as goal
@@ -18,7 +16,7 @@ bounds-words-previous c =
 pub returns : goal.returns
 returns c =
     let f = c.requires in
-    let a = c.args in
-    let b : ℕ = previous_index a.params a.segment.slice a.segment.lane.0 a.block in
-    let e : block_words * c.index-previous.result ≡ block_words * b + 0 = omega (arith, previous_index_lem f.of.slice f.inside c.index-previous.ensures c.previous_column.ensures) in
-    ap (λ (i : ℕ). get_or a.words.now i 0) e ∙ sym (block_at b a.words.now 0 (omega arith))
+    let w = c.args.words.now in
+    ap (λ (i : ℕ). get_or w i 0)
+    (omega (arith, previous_index_lem f.of.slice f.inside c.index-previous.ensures c.previous_column.ensures))
+    ∙ sym (block_at _ w 0 (omega arith))
