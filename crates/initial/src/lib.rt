@@ -2,7 +2,7 @@
 
 #![tactic(auto)]
 
-ghost use Rattle.std.specs.Prelude.{◌++◌, ◌≡◌, ◌+◌, ◌≤◌, length, take, drop};
+ghost use Rattle.std.specs.Prelude.{◌++◌, ◌≡◌};
 ghost use Rattle.blake2b.specs.Stream.{feed_all};
 ghost use Rattle.initial.specs.Initial.{le32, counted, header};
 ghost use Rattle.initial.specs.Promises.{InitialHashPromise, FirstWordsPromise};
@@ -12,20 +12,15 @@ use blake2b_long::blake2b_long;
 use block::Block;
 use params::{Inputs, Params};
 use position::{BlockNumber, LaneNumber};
-use word::HALF;
 
 // The bytes of a number.
 const NUMBER: usize = 4;
 
-// The numbers of 4 bytes.
-const COUNTS: usize = HALF as usize;
-
-// Where the lane's number stands in what a first block is hashed from, and how long that is.
-const LANE_AT: usize = Engine::MAX_OUTPUT + NUMBER;
-
-const FIRST_INPUT: usize = LANE_AT + NUMBER;
+// The bytes that a first block is hashed from.
+const FIRST_INPUT: usize = Engine::MAX_OUTPUT + 2 * NUMBER;
 
 // The state after a number, 4 bytes little-endian.
+#[tactic(auto, using(word::proofs::Library::to_le_bytes_4))]
 fn feed_number(state: Engine, n: u32) -> Engine
     ensures { result ≡ feed_all state (le32 n) }
 {
@@ -33,10 +28,11 @@ fn feed_number(state: Engine, n: u32) -> Engine
 }
 
 // The state after a count, of which 4 bytes are kept.
+#[tactic(auto, using(word::proofs::Library::to_le_bytes_8))]
 fn feed_count(state: Engine, n: usize) -> Engine
     ensures { result ≡ feed_all state (le32 n) }
 {
-    feed_number(state, (n % COUNTS) as u32)
+    state.feed(&n.to_le_bytes()[..NUMBER])
 }
 
 // The state after the count of some bytes, and the bytes.
@@ -67,18 +63,8 @@ pub fn initial_hash(params: Params, tag: usize, inputs: Inputs) -> [u8; Engine::
     let s = feed_counted(s, inputs.password);
     let s = feed_counted(s, inputs.salt);
     let s = feed_counted(s, inputs.secret);
-    feed_counted(s, inputs.ad).end()
-}
-
-// The bytes of a piece for those of out from at on; every other byte stays.
-fn lay(out: &mut [u8], at: usize, piece: &[u8])
-    requires { at + length piece.now ≤ length out.old }
-    ensures { out.new
-        ≡ take at out.old
-        ++ piece.now
-        ++ drop (at + length piece.now) out.old }
-{
-    out[at..at + piece.len()].copy_from_slice(piece);
+    let s = feed_counted(s, inputs.ad);
+    s.end()
 }
 
 // What a first block is hashed from: the initial hash, the block's number and the lane's.
@@ -90,19 +76,22 @@ fn first_input(
     ensures { result ≡ h ++ le32 block.0 ++ le32 lane.0 }
 {
     let mut input = [0; FIRST_INPUT];
-    lay(&mut input, 0, &h);
-    lay(&mut input, Engine::MAX_OUTPUT, &block.0.to_le_bytes());
-    lay(&mut input, LANE_AT, &lane.0.to_le_bytes());
+    let (hash, numbers) = input.split_at_mut(Engine::MAX_OUTPUT);
+    let (of_block, of_lane) = numbers.split_at_mut(NUMBER);
+    hash.copy_from_slice(&h);
+    of_block.copy_from_slice(&block.0.to_le_bytes());
+    of_lane.copy_from_slice(&lane.0.to_le_bytes());
     input
 }
 
 // A first block of a lane: the variable-length hash of that, as words.
+#[tactic(auto, unfolding(crate::specs::Initial::first_words))]
 pub fn first_words(h: [u8; Engine::MAX_OUTPUT], lane: LaneNumber, block: BlockNumber) -> Block
     ensures { FirstWordsPromise h lane block result }
 {
     let input = first_input(h, lane, block);
     let mut bytes = [0; Block::SIZE];
-    // No input is refused: the length is a block's.
+    // No refusal comes: the length is that of a block.
     let _ = blake2b_long(&input, &mut bytes);
     Block::from_bytes(bytes)
 }

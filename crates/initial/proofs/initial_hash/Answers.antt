@@ -11,5 +11,5 @@ returns c =
     record {
       result =
           all_fed _ _ _ _ _ _ c.initial.ensures.result c.begin-s.ensures.result
-          (and_then _ _ _ (and_then _ _ _ two c.feed_counted-s-3.ensures) c.feed_counted.ensures) c.end.ensures.result;
+          (and_then _ _ _ (and_then _ _ _ two c.feed_counted-s-3.ensures) c.feed_counted-s-4.ensures) c.end.ensures.result;
     }
