@@ -20,8 +20,8 @@ use position::{
 };
 use std::ops::Range;
 
-// The words and their parameters are passed side by side: in a struct over the lent words each method had to promise, beside what it writes, that it
-// keeps the reference and the parameters.
+// The words and their parameters are passed side by side: in a struct over the lent words each method had to promise, beside what it writes,
+// that it keeps the reference and the parameters.
 
 // Word 0 of the previous block.
 fn previous_word(words: &[u64], params: Params, segment: Segment, block: u32) -> u64
@@ -86,7 +86,7 @@ fn store(words: &mut [u64], params: Params, pass: u32, at: usize, new: Block)
         write_block(words, at, new);
         return;
     }
-    let old = read_block(&*words, at);
+    let old = read_block(words, at);
     write_block(words, at, Block::xor(old, new));
 }
 
@@ -101,7 +101,7 @@ fn fill_with(words: &mut [u64], params: Params, segment: Segment, block: u32, wo
         segment.lane,
         previous_column(params, segment.slice, block),
     );
-    let previous = read_block(&*words, before);
+    let previous = read_block(words, before);
     let to = reference_position(
         params.lanes,
         params.memory,
@@ -111,7 +111,7 @@ fn fill_with(words: &mut [u64], params: Params, segment: Segment, block: u32, wo
         word,
     )
     .unwrap_or(Reference::zeros());
-    let reference = read_block(&*words, index(params, to.lane, to.block));
+    let reference = read_block(words, index(params, to.lane, to.block));
     let new = Block::compress(previous, reference);
     let at = index(params, segment.lane, column(params, segment.slice, block));
     store(words, params, segment.pass, at, new);
@@ -130,9 +130,9 @@ fn fill_part(words: &mut [u64], params: Params, segment: Segment, blocks: Range<
     for block in blocks.start..blocks.end {
         let word = match &mut addresses {
             Some(made) => made.word(block),
-            None => previous_word(&*words, params, segment, block),
+            None => previous_word(words, params, segment, block),
         };
-        fill_with(&mut *words, params, segment, block, word);
+        fill_with(words, params, segment, block, word);
     }
 }
 
@@ -149,7 +149,6 @@ fn in_segment(params: Params, segment: Segment, from: u32, to: u32) -> bool
 
 // Fills some blocks of a lane's segment. All words stay if they are not lent for these parameters, or if these are no blocks of a segment
 // that are filled.
-
 pub fn fill_blocks(words: &mut [u64], params: Params, segment: Segment, blocks: Range<u32>)
     ensures { FillBlocksPromise words.old params segment.pass segment.slice segment.lane.0 blocks.start blocks.end words.new }
 {
@@ -171,7 +170,7 @@ fn fill_slice(words: &mut [u64], params: Params, pass: u32, slice: u32)
             lane: LaneNumber(lane),
         };
         let blocks = first_block(pass, slice)..params.segment_length();
-        fill_part(&mut *words, params, segment, blocks);
+        fill_part(words, params, segment, blocks);
     }
 }
 
@@ -182,7 +181,7 @@ fn fill_pass(words: &mut [u64], params: Params, pass: u32)
     ensures { words.new ≡ spec.fill_pass params pass words.old }
 {
     for slice in 0..Params::SYNC_POINTS {
-        fill_slice(&mut *words, params, pass, slice);
+        fill_slice(words, params, pass, slice);
     }
 }
 
@@ -195,6 +194,6 @@ pub fn fill_all(words: &mut [u64], params: Params)
         return;
     }
     for pass in 0..params.passes {
-        fill_pass(&mut *words, params, pass);
+        fill_pass(words, params, pass);
     }
 }

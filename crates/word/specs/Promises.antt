@@ -6,10 +6,6 @@ use Rattle.word.specs.Word.{word_bytes, to_le, number_at, words_of, bytes, low_h
 pub record LoadPromise (n : ℕ) (s : List ℕ) (at r : ℕ) : Type 0 where
   pub result : r ≡ number_at n s at
 
--- to_le32, to_le64
-pub record ToLePromise (n x : ℕ) (r : List ℕ) : Type 0 where
-  pub result : r ≡ to_le n x
-
 -- w stands at entry, w' at exit
 pub record LoadWordsPromise (s w w' : List ℕ) : Type 0 where
   pub words : w' ≡ words_of (length w) s

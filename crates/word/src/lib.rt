@@ -3,7 +3,7 @@
 #![tactic(auto)]
 
 ghost use Rattle.std.specs.Prelude.{◌≡◌};
-ghost use Rattle.word.specs.Promises.{LoadPromise, ToLePromise, LoadWordsPromise, StoreWordsPromise, LowHalfPromise, HighHalfPromise};
+ghost use Rattle.word.specs.Promises.{LoadPromise, LoadWordsPromise, StoreWordsPromise, LowHalfPromise, HighHalfPromise};
 ghost use Rattle.word.specs.Word.{word_bytes, from_le, number_at};
 
 // The bytes of a word.
@@ -37,22 +37,6 @@ pub fn load32(s: &[u8], at: usize) -> u32
     ensures { LoadPromise 4 s.now at result }
 {
     u32::from_le_bytes(bytes_at(s, at))
-}
-
-// The eight bytes of x, the lowest first.
-#[tactic(auto, using(crate::proofs::Library::to_le_bytes_8))]
-pub fn to_le64(x: u64) -> [u8; WORD]
-    ensures { ToLePromise word_bytes x result }
-{
-    x.to_le_bytes()
-}
-
-// The four bytes of x, the lowest first.
-#[tactic(auto, using(crate::proofs::Library::to_le_bytes_4))]
-pub fn to_le32(x: u32) -> [u8; 4]
-    ensures { ToLePromise 4 x result }
-{
-    u32::to_le_bytes(x)
 }
 
 // The words become those of the bytes of s, in their order; 0 where s has fewer.
