@@ -79,28 +79,3 @@ same_answer (Err r) (Err s) e f = ap Err (refusals_differ e)
 
 pub injective : {a b : Result ⊤ Refusal} → number a ≡ number b → a ≡ b
 injective {a} {b} e = same_answer a b e (λ x y _ _. refl)
-
--- two digits are enough to print a number
-pub number_lt : {T : Type 0} (a : Result T Refusal) → number a < 22
-number_lt (Ok _) = lit< tt
-number_lt (Err AlgorithmInvalid) = lit< tt
-number_lt (Err VersionInvalid) = lit< tt
-number_lt (Err ThreadsTooFew) = lit< tt
-number_lt (Err ThreadsTooMany) = lit< tt
-number_lt (Err MemoryTooSmall) = lit< tt
-number_lt (Err MemoryTooMuch) = lit< tt
-number_lt (Err TimeTooSmall) = lit< tt
-number_lt (Err TagTooShort) = lit< tt
-number_lt (Err AdTooLong) = lit< tt
-number_lt (Err SecretTooLong) = lit< tt
-number_lt (Err OutputTooShort) = lit< tt
-number_lt (Err OutputTooLong) = lit< tt
-number_lt (Err PwdTooLong) = lit< tt
-number_lt (Err SaltTooShort) = lit< tt
-number_lt (Err SaltTooLong) = lit< tt
-number_lt (Err MemoryTooLittle) = lit< tt
-number_lt (Err Inconsistent) = lit< tt
-number_lt (Err Complete) = lit< tt
-number_lt (Err NoSuchLane) = lit< tt
-number_lt (Err LaneFinished) = lit< tt
-number_lt (Err NotComplete) = lit< tt

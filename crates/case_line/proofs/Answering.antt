@@ -15,11 +15,6 @@ use Rattle.case_line.specs.Lines.{line_bytes, refused_words, numbered_text, tag_
 use Rattle.case_line.specs.Promises.{AnswerLinePromise}
 use Rattle.case_line.specs.declared.sections.Case.{Case}
 
-pub left_alone : (input words line : List ℕ) → length line < line_bytes → AnswerLinePromise input words line 0 words line
-left_alone input words line h =
-    let short = lt-ltb (length line) line_bytes h in
-    record { count = rw short; text = rw short; memory = rw short; within = omega arith; start = refl }
-
 -- the first zeros of more
 pub zeros : (n m : ℕ) → n ≤ m → take {A = ℕ} n (replicate m 0) ≡ replicate n 0
 zeros zero m h = refl

@@ -31,34 +31,8 @@ pub pushed : {t d l : List ℕ} {i j : ℕ} (x : ℕ) → Written t d l i → i 
 pushed {t} {d} {l} {i} {j} x w h e =
     record { bytes = rw (w.bytes, w.count) (push t d x (omega (arith, w.count))); count = simp length-append (omega (arith, w.count)) }
 
--- a text by another name
-pub renamed : {t u d l : List ℕ} {i : ℕ} → t ≡ u → Written t d l i → Written u d l i
-renamed e w = rw e at w
-
--- a line keeps its length
-pub same_length : {t d l : List ℕ} {i : ℕ} → Written t d l i → i ≤ length d → length l ≡ length d
-same_length {t} {d} {l} {i} w h = ap length w.bytes ∙ simp (length-append, length-drop) (omega (arith, w.count))
-
-hex_snoc : (bs : List ℕ) (b : ℕ) → hex_digits (bs ++ (b ∷ [])) ≡ hex_digits bs ++ hex_of b
-unfolding hex_digits
-hex_snoc [] b = refl
-hex_snoc (x ∷ bs) b = ap (λ (l : List ℕ). hex_of x ++ l) (hex_snoc bs b)
-
--- the digits of one byte more
-pub hex_more : (tag : List ℕ) (i : ℕ) → i < length tag → hex_digits (take (i + 1) tag) ≡ hex_digits (take i tag) ++ hex_of (get_or tag i 0)
-hex_more tag i h = rw (add-one, take-suc tag i 0) (hex_snoc (take i tag) (get_or tag i 0))
-
 two : (t u : List ℕ) (x y : ℕ) → ((t ++ u) ++ (x ∷ [])) ++ (y ∷ []) ≡ t ++ (u ++ (x ∷ y ∷ []))
 two t u x y = simp append_assoc
-
--- the text of a tag, one byte more, and its end
-pub tag_more : (tag pair : List ℕ) (i : ℕ) → i < length tag → pair ≡ hex_of (get_or tag i 0)
-    → ((tag_word ++ hex_digits (take i tag)) ++ (get_or pair 0 0 ∷ [])) ++ (get_or pair 1 0 ∷ []) ≡ tag_word ++ hex_digits (take (i + 1) tag)
-tag_more tag pair i h e =
-    rw e (two tag_word (hex_digits (take i tag)) _ _ ∙ ap (λ (l : List ℕ). tag_word ++ l) (sym (hex_more tag i h)))
-
-pub tag_end : (tag : List ℕ) (i : ℕ) → length tag ≤ i → (tag_word ++ hex_digits (take i tag)) ++ newline ≡ tag_text tag
-tag_end tag i h = rw (take_all i tag h)
 
 -- the text of a number, of one digit and of two
 pub one_digit : (words : List ℕ) (n : ℕ) → n < 10 → (words ++ ((48 + n) ∷ [])) ++ newline ≡ numbered_text words n

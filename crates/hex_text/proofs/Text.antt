@@ -15,17 +15,6 @@ unfolding hex_digits
 length_digits [] = refl
 length_digits (b ∷ bs) = omega (arith, length_digits bs)
 
--- digit k is one of the two of byte k / 2
-pub digit_is : (bs : List ℕ) (k : ℕ) → k < 2 * length bs → get_or (hex_digits bs) k 0 ≡ get_or (hex_of (get_or bs (k / 2) 0)) (k % 2) 0
-unfolding hex_digits
-digit_is [] k h = absurd (omega arith)
-digit_is (b ∷ bs) zero h = refl
-digit_is (b ∷ bs) (suc zero) h = refl
-digit_is (b ∷ bs) (suc (suc k)) h =
-    let q : suc (suc k) / 2 ≡ suc (k / 2) = omega arith in
-    let r : suc (suc k) % 2 ≡ k % 2 = omega arith in
-    digit_is bs k (omega arith) ∙ rw (q, r)
-
 -- one byte more
 digits_suc : (bs : List ℕ) (k : ℕ) → k < length bs → hex_digits (take (suc k) bs) ≡ hex_digits (take k bs) ++ hex_of (get_or bs k 0)
 unfolding hex_digits

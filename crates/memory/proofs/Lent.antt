@@ -83,9 +83,6 @@ has_fact words b h = omega arith
 pub read_there : {w : List ℕ} {b : ℕ} {r : Block} → ReadBlockPromise w b r → Has (length w) b → r.words ≡ block b w
 read_there {w} {b} p there = p.words ∙ ap (λ (t : Bool). cond t (block b w) zeros) (has_true (length w) b there)
 
-pub write_there : {w : List ℕ} {b : ℕ} {x : Block} {w' : List ℕ} → WriteBlockPromise w b x w' → Has (length w) b → w' ≡ put b x.words w
-write_there {w} {b} {x} p there = p.memory ∙ ap (λ (t : Bool). cond t (put b x.words w) w) (has_true (length w) b there)
-
 -- memory that is lent
 pub first_there : {w : List ℕ} {P : Params} {h w' : List ℕ} → FirstBlocksPromise w P h w' → Lent P (length w)
     → w' ≡ start_memory h P.lanes (segment P) w

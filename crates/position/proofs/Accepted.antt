@@ -72,15 +72,6 @@ module _ {p m t r sl l k x : ℕ} where
       let z : eqb (first (position_rows p m t r sl l k)) 0 ≡ false = ne_eqb (first (position_rows p m t r sl l k)) 0 (λ n. refused e (a ∙ n)) in
       record { answer = a; lane = rw z; block = rw z }
 
-  -- a refusal of the costs is the answer
-  pub refuses_costs : {e : Refusal} → refusal e ≡ first (cost_rows p m t) → ReferencePromise p m t r sl l k x (Err e)
-  refuses_costs {e} a = refuses (part_refused e (cost_rows p m t) (position_invalid p (segment_length m p) t r sl l k ∷ []) a)
-
-  -- else a block that no step fills is refused
-  pub refuses_position : first (cost_rows p m t) ≡ 0 → fills p (segment_length m p) t r sl l k ≡ false
-      → ReferencePromise p m t r sl l k x (Err Inconsistent)
-  refuses_position h none = refuses (sym (past_costs p m t r sl l k h ∙ rw none))
-
   pub accepts : {o : Reference} → Within p m t → Filled p (segment_length m p) t r sl l k
       → o.lane.0 ≡ reference_lane p r sl l x → o.block.0 ≡ reference_column p (segment_length m p) r sl l k x
       → ReferencePromise p m t r sl l k x (Ok o)

@@ -1,6 +1,5 @@
 pub mod Bytes
 pub mod Chunk
-pub mod Copied
 pub mod Cut
 pub mod Half
 pub mod Library
