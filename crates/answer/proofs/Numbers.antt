@@ -1,9 +1,8 @@
 -- An answer's number tells which answer it is: the table, read at the number of a refusal, gives that refusal back. Assumes nothing.
-use Prim.Native.Nat.{ℕ, zero, suc, ◌<◌, ◌-◌}
+use Prim.Native.Nat.{ℕ, zero, suc, ◌-◌}
 use Rattle.std.specs.Prelude.{⊤, Result, Ok, Err}
 use mathlib.Core.Path.{◌≡◌, refl, sym, ap, ◌∙◌}
 use mathlib.Core.List.{List, [], ◌∷◌}
-use lib.Dec.{lit<}
 use native.Mathlib.Omega.{arith}
 use Rattle.answer.specs.Answers.{refusal, number}
 use Rattle.answer.specs.declared.Refusal.{Refusal}

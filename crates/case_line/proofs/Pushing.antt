@@ -31,8 +31,9 @@ pub pushed : {t d l : List ℕ} {i j : ℕ} (x : ℕ) → Written t d l i → i 
 pushed {t} {d} {l} {i} {j} x w h e =
     record { bytes = rw (w.bytes, w.count) (push t d x (omega (arith, w.count))); count = simp length-append (omega (arith, w.count)) }
 
-two : (t u : List ℕ) (x y : ℕ) → ((t ++ u) ++ (x ∷ [])) ++ (y ∷ []) ≡ t ++ (u ++ (x ∷ y ∷ []))
-two t u x y = simp append_assoc
+-- a text by another name
+pub renamed : {t u d l : List ℕ} {i : ℕ} → t ≡ u → Written t d l i → Written u d l i
+renamed e w = rw e at w
 
 -- the text of a number, of one digit and of two
 pub one_digit : (words : List ℕ) (n : ℕ) → n < 10 → (words ++ ((48 + n) ∷ [])) ++ newline ≡ numbered_text words n

@@ -2,7 +2,7 @@
 
 #![tactic(auto)]
 
-ghost use Rattle.std.specs.Prelude.{eqb, leb, ltb, replicate, ◌&&◌, ◌++◌, ◌≡◌, ◌-◌, ◌<◌, ◌≤◌};
+ghost use Rattle.std.specs.Prelude.{drop, eqb, leb, ltb, replicate, ◌&&◌, ◌++◌, ◌≡◌, ◌-◌, ◌<◌, ◌≤◌};
 ghost use Rattle.std.specs.List.{list_all, list_any};
 ghost use Rattle.params.specs.Limits.{max_lanes, slices, segment};
 ghost use Rattle.job.specs.Jobs as spec;
@@ -29,6 +29,13 @@ fn all_at_zero(lanes: &[u32]) -> bool
     ensures { result ≡ list_all (λ block. eqb block 0) lanes.now }
 {
     lanes.iter().all(|block| *block == 0)
+}
+
+// Whether each of some lanes from one on stands at 0.
+fn zero_from(lanes: &[u32], from: usize) -> bool
+    ensures { result ≡ list_all (λ block. eqb block 0) (drop from lanes.now) }
+{
+    lanes.iter().skip(from).all(|block| *block == 0)
 }
 
 // Whether each of some lanes stands between two blocks.
@@ -88,10 +95,9 @@ impl Job {
 
     // Whether lanes not in use stand at 0.
     fn laid_out(self) -> bool
-        requires { self.params.lanes ≤ max_lanes }
         ensures { result ≡ spec.laid_out self }
     {
-        all_at_zero(&self.positions[self.params.lanes as usize..])
+        zero_from(&self.positions, self.params.lanes as usize)
     }
 
     // Whether filling is complete.

@@ -21,8 +21,8 @@ use Rattle.position.specs.Position.{index}
 use Rattle.position.proofs.Referring.{index-lt}
 use Rattle.checks.specs.Rows.{too_little}
 use Rattle.memory.specs.Lent.{has, lent, Has, Lent}
-use Rattle.memory.specs.Memory.{block, put}
-use Rattle.memory.specs.Promises.{ReadBlockPromise, WriteBlockPromise, FirstBlocksPromise, WriteTagPromise}
+use Rattle.memory.specs.Memory.{block}
+use Rattle.memory.specs.Promises.{ReadBlockPromise, FirstBlocksPromise, WriteTagPromise}
 use Rattle.memory.specs.Start.{start_memory}
 use Rattle.memory.specs.Tag.{tag_of}
 

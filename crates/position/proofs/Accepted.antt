@@ -2,18 +2,14 @@
 -- and for those of the crates above. Assumes nothing.
 use mathlib.Core.Bool.{true, false, ◌&&◌, and-eq-true_iff}
 use mathlib.Core.List.{[], ◌∷◌}
-use mathlib.Core.Logic.{◌≢◌}
 use mathlib.Core.Path.{◌≡◌, sym, ap, ap₂, ◌∙◌}
 use Prim.Native.Nat.{ℕ, ◌≤◌, ◌<◌}
-use native.Mathlib.Omega.{arith}
 use lib.Dec.{ltb, leb, eqb}
 use borrow.Author.Tests.{ltb-true, leb-true, lt-ltb, le-leb, ne_eqb}
 use Rattle.std.specs.Prelude.{Result, Ok, Err}
 use Rattle.std.specs.Result.{result_unwrap_or}
 use Rattle.answer.specs.Answers.{refusal, number, first}
 use Rattle.answer.specs.declared.Refusal.{Refusal}
-use Rattle.answer.specs.declared.Refusal.TheVariants.{Inconsistent}
-use Rattle.answer.proofs.Answered.{part_refused}
 use Rattle.answer.proofs.Numbers.{refused}
 use Rattle.answer.proofs.Rows.{first_passed}
 use Rattle.params.specs.Limits.{slices, cost_rows, segment_length, segment}

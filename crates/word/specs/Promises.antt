@@ -1,6 +1,6 @@
 -- What the public functions of this crate promise.
 use Rattle.std.specs.Prelude.{ℕ, ◌*◌, List, ◌++◌, ◌≡◌, length, take, drop}
-use Rattle.word.specs.Word.{word_bytes, to_le, number_at, words_of, bytes, low_half, high_half}
+use Rattle.word.specs.Word.{word_bytes, number_at, words_of, bytes, low_half, high_half}
 
 -- load32, load
 pub record LoadPromise (n : ℕ) (s : List ℕ) (at r : ℕ) : Type 0 where
