@@ -1,18 +1,17 @@
 -- The promise of `answer_line`, from what was parsed, what the hash gave and what was written. Assumes nothing.
-use Prim.Native.Nat.{ℕ, zero, suc, ◌≤◌, ◌<◌}
+use Prim.Native.Nat.{ℕ, zero, suc, ◌≤◌}
 use mathlib.Core.List.{List, ◌∷◌}
 use mathlib.Core.Path.{◌≡◌, refl, sym, ap, ◌∙◌}
 use native.Mathlib.Omega.{arith}
-use borrow.Author.Tests.{lt-ltb, eq-eqb, ne_eqb}
-use lib.ListN.{length, take, replicate}
-use Rattle.answer.specs.Answers.{refusal, number}
+use borrow.Author.Tests.{eq-eqb, ne_eqb}
+use lib.ListN.{take, replicate}
+use Rattle.answer.specs.Answers.{number}
 use Rattle.answer.proofs.Numbers.{refused as not_zero}
 use Rattle.std.specs.Prelude.{⊤, Result, Err}
 use Rattle.answer.specs.declared.Refusal.{Refusal}
 use Rattle.argon2.specs.Promises.{HashPromise}
 use Rattle.case_line.specs.Answers.{part, hash_of, Answered}
-use Rattle.case_line.specs.Lines.{line_bytes, refused_words, numbered_text, tag_text, Written}
-use Rattle.case_line.specs.Promises.{AnswerLinePromise}
+use Rattle.case_line.specs.Lines.{refused_words, numbered_text, tag_text, Written}
 use Rattle.case_line.specs.declared.sections.Case.{Case}
 
 -- the first zeros of more

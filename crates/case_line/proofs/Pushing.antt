@@ -2,14 +2,13 @@
 use Prim.Native.Nat.{ℕ, suc, ◌+◌, ◌*◌, ◌/◌, ◌%◌, ◌≤◌, ◌<◌}
 use mathlib.Core.List.{List, [], ◌∷◌, ◌++◌, append_assoc}
 use mathlib.Core.Path.{◌≡◌, refl, sym, ap, ◌∙◌}
-use native.Mathlib.Numerals.{add-one}
 use native.Mathlib.Omega.{arith}
 use borrow.Author.Tests.{lt-ltb, le-ltb}
-use lib.ListN.{length, take, drop, get_or, set, length-append, length-drop}
-use lib.Seq.{drop-cons, drop-drop, set-append_seam, take_all, take-suc}
+use lib.ListN.{length, drop, set, length-append, length-drop}
+use lib.Seq.{drop-cons, drop-drop, set-append_seam}
 use mathlib.Core.Bool.{true}
 use borrow.Author.Tests.{le-leb}
-use Rattle.hex_text.specs.Hex.{hex_of, hex_digits, fits}
+use Rattle.hex_text.specs.Hex.{hex_digits, fits}
 use Rattle.hex_text.specs.Promises.{WritePromise}
 use Rattle.hex_text.proofs.Text.{length_digits}
 use Rattle.case_line.specs.Lines.{tag_word, newline, tag_text, numbered_text, on_line, Written}

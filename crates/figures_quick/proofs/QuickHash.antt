@@ -2,7 +2,7 @@
 use mathlib.Core.Bool.{Bool, true, false}
 use mathlib.Core.List.{List, [], ◌∷◌, ◌++◌}
 use mathlib.Core.Path.{◌≡◌, refl, ap, ◌∙◌}
-use Prim.Native.Nat.{ℕ, zero, suc, ◌+◌, ◌*◌, ◌/◌, ◌%◌, ◌^◌}
+use Prim.Native.Nat.{ℕ, zero, suc, ◌+◌, ◌*◌}
 use lib.Bits.{bit_xor}
 use lib.ListN.{length, take, set}
 use Rattle.word.specs.Table.{table}

@@ -17,8 +17,7 @@ use Rattle.params.specs.Limits.{rows, slices, max_lanes, segment, blocks}
 use Rattle.params.specs.declared.Params.{Params}
 use Rattle.params.proofs.Within.{Within, params_within, two}
 use Rattle.position.specs.Position.{first_block}
-use Rattle.checks.specs.Rows.{most_tag, output_rows}
-use Rattle.word.specs.Word.{max_length}
+use Rattle.checks.specs.Rows.{output_rows}
 use Rattle.job.specs.Jobs.{all, position, tag_allowed, laid_out, complete, stands_complete, unfinished, stands_inside, consistent, moved, next_slice, onward, zero_job, step_rows, finish_rows}
 use Rattle.job.specs.declared.Job.{Job}
 use Rattle.job.proofs.Tests.{and-true, and_of, and-false, or_left, or_right, or_second, all_true, all_of, any_of, any_true}

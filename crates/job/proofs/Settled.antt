@@ -2,7 +2,7 @@
 use Prim.Native.Nat.{ℕ}
 use mathlib.Core.Bool.{Bool}
 use mathlib.Core.Path.{◌≡◌, sym, ap, ◌∙◌}
-use Rattle.std.specs.Prelude.{⊤, Result, Ok}
+use Rattle.std.specs.Prelude.{⊤, Result}
 use Rattle.std.specs.Result.{result_unwrap_or}
 use Rattle.answer.specs.declared.Refusal.{Refusal}
 use Rattle.answer.proofs.Numbers.{injective, same_answer}

@@ -1,5 +1,5 @@
 -- `argon2::fill_memory` meets its contract: refused, the words stay; accepted, the rows say that the memory has the blocks. Assumes nothing.
-use Rattle.std.proofs.Common.{◌≡◌, ℕ, sym, ◌∙◌, length, rules}
+use Rattle.std.proofs.Common.{◌≡◌, sym, ◌∙◌, length, rules}
 use Rattle.answer.specs.Answers.{first}
 use Rattle.answer.proofs.Answered.{handed_on, left_new, left_refused}
 use Rattle.block.specs.Block.{block_words}

@@ -1,5 +1,5 @@
 -- `argon2::finish` meets its contract: refused, the output stays; accepted, the job is complete and its tag length fits. Assumes nothing.
-use Rattle.std.proofs.Common.{◌≡◌, ℕ, sym, refl, ◌∙◌, length, arith}
+use Rattle.std.proofs.Common.{◌≡◌, sym, refl, ◌∙◌, length, arith}
 use Rattle.answer.specs.Answers.{first}
 use Rattle.answer.proofs.Answered.{handed_on, left_new, left_refused}
 use Rattle.job.specs.Jobs.{finish_rows}

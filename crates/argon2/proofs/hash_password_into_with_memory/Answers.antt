@@ -1,6 +1,6 @@
 -- `argon2::hash_password_into_with_memory` meets its contract: refused, words and output stay; accepted, the rows say that the memory has the
 -- blocks and that the tag can be hashed. Assumes nothing.
-use Rattle.std.proofs.Common.{◌≡◌, ◌≤◌, ℕ, List, sym, refl, ap, ◌∙◌, length, rules}
+use Rattle.std.proofs.Common.{◌≡◌, sym, refl, ap, ◌∙◌, length, rules}
 use Rattle.answer.specs.Answers.{first}
 use Rattle.answer.proofs.Answered.{handed_on, left_new, left_refused}
 use Rattle.block.specs.Block.{block_words}

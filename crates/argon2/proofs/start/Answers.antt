@@ -1,5 +1,5 @@
 -- `argon2::start` meets its contract: refused, the words stay; accepted, the rows say that the memory has the blocks. Assumes nothing.
-use Rattle.std.proofs.Common.{◌≡◌, ℕ, sym, ap, ◌∙◌, length}
+use Rattle.std.proofs.Common.{◌≡◌, sym, ap, ◌∙◌, length}
 use Rattle.std.specs.Result.{result_unwrap_or}
 use Rattle.std.proofs.lemmas.Result.{err_from_is_err_and}
 use Rattle.answer.specs.Answers.{first}

@@ -1,10 +1,9 @@
 -- `turns::play` meets its contract: at each turn the lanes that are left lead from where it stands to the same end. Assumes nothing.
 use Prim.Native.Nat.{ℕ, ◌+◌, ◌<◌}
 use mathlib.Core.List.{List}
-use mathlib.Core.Path.{◌≡◌, refl, sym, ap, ◌∙◌}
+use mathlib.Core.Path.{◌≡◌, sym, ap, ◌∙◌}
 use native.Mathlib.Numerals.{add-one}
 use native.Mathlib.Omega.{arith}
-use borrow.Author.Rules.{rules}
 use lib.ListN.{length, drop, get_or}
 use lib.Seq.{drop-cons, drop-length}
 use Rattle.std.specs.Prelude.{⊤, Result}

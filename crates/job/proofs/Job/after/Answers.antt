@@ -1,5 +1,5 @@
 -- `job::Job::after` meets its contract: where the step is accepted the rows say that its lane can move. Assumes nothing.
-use Rattle.std.proofs.Common.{◌≡◌, sym, ap, ◌∙◌, arith}
+use Rattle.std.proofs.Common.{sym, ap, ◌∙◌, arith}
 use Rattle.answer.specs.Answers.{first}
 use Rattle.answer.proofs.Answered.{left_new}
 use Rattle.job.specs.Jobs.{moved, onward, step_rows}

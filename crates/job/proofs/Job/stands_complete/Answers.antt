@@ -1,5 +1,5 @@
 -- `job::Job::stands_complete` meets its contract: the lanes that the list has are those that the definition counts. Assumes nothing.
-use Rattle.std.proofs.Common.{◌≡◌, ◌≤◌, sym, ◌∙◌, length, eqb, rules}
+use Rattle.std.proofs.Common.{◌≤◌, sym, ◌∙◌, length, eqb, rules}
 use Rattle.std.proofs.lemmas.Bool.Decides.{nat_tests}
 use Rattle.job.proofs.Lanes.{first_all}
 use Rattle.job.proofs.Job.stands_complete.Goals as goal

@@ -1,5 +1,5 @@
 -- `job::Job::unfinished` meets its contract: the lanes that the list has are those that the definition counts. Assumes nothing.
-use Rattle.std.proofs.Common.{◌≡◌, ◌≤◌, sym, ◌∙◌, ap, length, take, ltb, rules}
+use Rattle.std.proofs.Common.{◌≤◌, sym, ◌∙◌, ap, length, take, ltb, rules}
 use Rattle.std.specs.List.{list_any}
 use Rattle.job.proofs.Lanes.{first_any}
 use Rattle.job.proofs.Job.unfinished.Goals as goal

@@ -1,5 +1,5 @@
 -- `job::Job::used_between` meets its contract: the lanes that the list has are those that the definition counts. Assumes nothing.
-use Rattle.std.proofs.Common.{◌≡◌, ◌≤◌, sym, ◌∙◌, length, leb, ◌&&◌, rules}
+use Rattle.std.proofs.Common.{◌≤◌, sym, ◌∙◌, length, leb, ◌&&◌, rules}
 use Rattle.job.proofs.Lanes.{first_all}
 use Rattle.job.proofs.Job.used_between.Goals as goal
 
