@@ -30,15 +30,6 @@ impl From<u64> for Call {
 // The most words that a case is lent: one lane with segments of 129 blocks.
 const WORDS: usize = 516 * Block::WORDS;
 
-// The answer of a case's call.
-fn called(case: Case, inputs: Inputs, words: &mut [u64], out: &mut [u8]) -> Result<(), Refusal> {
-    match Call::from(case.kind) {
-        Call::Hash => hash_password_into_with_memory(case.params, inputs, words, out),
-        Call::Fill => fill_memory(case.params, inputs, words),
-        Call::Long => blake2b_long(inputs.password, out),
-    }
-}
-
 // The answer of a case's call, whose inputs are the next texts.
 fn answered<R: Read>(
     list: &mut R,
@@ -56,7 +47,11 @@ fn answered<R: Read>(
         secret: next_text(list, &mut secret),
         ad: next_text(list, &mut ad),
     };
-    called(case, inputs, words, out)
+    match Call::from(case.kind) {
+        Call::Hash => hash_password_into_with_memory(case.params, inputs, words, out),
+        Call::Fill => fill_memory(case.params, inputs, words),
+        Call::Long => blake2b_long(inputs.password, out),
+    }
 }
 
 // Whether answer, output and all lent words of the next case are the recorded ones, over memory that the seed made dirty.

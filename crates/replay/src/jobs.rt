@@ -75,18 +75,17 @@ fn figures(job: Job) -> [u64; FIGURES] {
     figures
 }
 
-// Whether a step of a case's job has the recorded answer and hands back the recorded job.
+// Whether a step of a case's job has the recorded answer and leaves the recorded job.
 fn step_agrees<R: Read>(
     list: &mut R,
     case: Case,
-    job: Job,
+    mut job: Job,
     words: &mut [u64],
     lane: LaneNumber,
 ) -> bool {
-    let mut after = job;
-    let answer = step(&mut after, words, lane);
-    let handed = is_next(list, &lent::digest(&figures(after)));
-    answer::number(answer) as u64 == case.answer && handed
+    let answer = step(&mut job, words, lane);
+    let left = is_next(list, &lent::digest(&figures(job)));
+    answer::number(answer) as u64 == case.answer && left
 }
 
 // Whether a finish of a case's job has the recorded answer and output, over an output that the seed made dirty.

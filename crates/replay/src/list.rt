@@ -11,6 +11,7 @@ pub(crate) const MOST: usize = 256;
 // The numbers that a case of the hashes or of the jobs begins with, behind its line.
 #[derive(Clone, Copy)]
 pub(crate) struct Case {
+    // The call, by its recorded number.
     pub(crate) kind: u64,
     pub(crate) params: Params,
     // The tag's length.
