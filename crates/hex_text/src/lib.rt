@@ -21,7 +21,8 @@ pub fn digits(b: u8) -> [u8; 2]
     [digit(b / 16), digit(b % 16)]
 }
 
-// The digits of the bytes, at the start of the text; how many they are. A text that has no room for them is left alone: 0.
+// The digits of the bytes, at the start of the text; how many they are. A text that has no room for them is left alone: 0, and no Option,
+// as `WritePromise` says. A lent text and a count, where there could be a String: no library has a heap.
 #[tactic(auto, using(crate::proofs::Text::one_more), unfolding(crate::specs::Hex::hex_digits))]
 pub fn write(bytes: &[u8], text: &mut [u8]) -> usize
     ensures { WritePromise bytes.now text.old result text.new }

@@ -24,13 +24,6 @@ pub struct Job {
     pub positions: [u32; Job::LANES],
 }
 
-// Whether each of some lanes stands at 0.
-fn all_at_zero(lanes: &[u32]) -> bool
-    ensures { result ≡ list_all (λ block. eqb block 0) lanes.now }
-{
-    lanes.iter().all(|block| *block == 0)
-}
-
 // Whether each of some lanes from one on stands at 0.
 fn zero_from(lanes: &[u32], from: usize) -> bool
     ensures { result ≡ list_all (λ block. eqb block 0) (drop from lanes.now) }
@@ -100,6 +93,8 @@ impl Job {
         zero_from(&self.positions, self.params.lanes as usize)
     }
 
+    // What asks below for a few lanes is no type that has them as its fact: any record is a job, so each call would make that type first.
+
     // Whether filling is complete.
     fn complete(self) -> bool
         ensures { result ≡ spec.complete self }
@@ -114,7 +109,7 @@ impl Job {
     {
         self.complete()
             && self.slice == 0
-            && all_at_zero(&self.positions[..self.params.lanes as usize])
+            && zero_from(&self.positions[..self.params.lanes as usize], 0)
     }
 
     // Whether some used lane is under the segment's end.
@@ -159,7 +154,7 @@ impl Job {
             && (self.stands_complete() || self.stands_inside())
     }
 
-    // The block of a lane's segment that comes next; 0 for a lane past the array.
+    // The block of a lane's segment that comes next; 0, and no Option, for a lane past the array, as `PositionPromise` says.
     pub fn position(self, lane: LaneNumber) -> u32
         ensures { PositionPromise self lane.0 result }
     {
@@ -252,7 +247,7 @@ impl Job {
         Ok(self.moved(lane).onward())
     }
 
-    // The job before the first step; a job of zeros for parameters that rows 1 to 8 refuse.
+    // The job before the first step; a job of zeros, and no Result, for parameters that rows 1 to 8 refuse, as `JobStartPromise` says.
     pub fn start(params: Params, tag: usize) -> Job
         ensures { JobStartPromise params tag result }
     {

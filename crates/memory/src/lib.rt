@@ -25,7 +25,7 @@ pub fn is_lent(params: Params, words: usize) -> bool
     params.check().is_ok() && !too_little(WORDS, params, words)
 }
 
-// Block b of the words; zeros if they have no such block.
+// Block b of the words; zeros, and no Option, if they have no such block, as `ReadBlockPromise` says.
 #[tactic(auto, unfolding(crate::specs::Memory::block))]
 pub fn read_block(words: &[u64], b: usize) -> Block
     ensures { ReadBlockPromise words.now b result }

@@ -135,7 +135,7 @@ impl Params {
         self.check_from(Params::V0X10)
     }
 
-    // s = floor(m / 4p), of m and p; 0 without lanes.
+    // s = floor(m / 4p), of m and p; 0, and no Option, without lanes, as `SegmentOfPromise` says.
     pub fn segment_of(memory: u32, lanes: u32) -> u32
         ensures { SegmentOfPromise memory lanes result }
     {

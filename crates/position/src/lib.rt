@@ -69,7 +69,7 @@ fn in_lane(segment: u32, slice: u32, block: u32) -> bool
     slice < Params::SYNC_POINTS && block < segment
 }
 
-// The column of a block of a slice; 0 where a lane has no such block.
+// The column of a block of a slice; 0, and no Option, where a lane has no such block, as `ColumnPromise` says.
 #[tactic(auto, using(params::proofs::Sizes::lane_le, crate::proofs::Columns::in_lane_facts, crate::proofs::Lane::slice_le, std::proofs::lemmas::Bool::Decides::nat_tests))]
 pub fn column(params: Params, slice: u32, block: u32) -> BlockNumber
     ensures { ColumnPromise params slice block result }
@@ -81,7 +81,8 @@ pub fn column(params: Params, slice: u32, block: u32) -> BlockNumber
     BlockNumber(0)
 }
 
-// The column of the block before; before a lane's first block, in a later pass, stands its last. 0 where a lane has no such block.
+// The column of the block before; before a lane's first block, in a later pass, stands its last. 0, and no Option, where a
+// lane has no such block, as `PreviousColumnPromise` says.
 #[tactic(auto, using(crate::proofs::Columns::in_lane_facts, std::proofs::lemmas::Bool::Decides::nat_tests), unfolding(crate::specs::Position::previous_column))]
 pub fn previous_column(params: Params, slice: u32, block: u32) -> BlockNumber
     ensures { PreviousColumnPromise params slice block result }

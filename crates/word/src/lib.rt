@@ -23,7 +23,7 @@ fn bytes_at<const N: usize>(s: &[u8], at: usize) -> [u8; N]
     rest.first_chunk().copied().unwrap_or([0; N])
 }
 
-// The word at the eight bytes of s from at on; 0 where s has fewer there.
+// The word at the eight bytes of s from at on; 0, and no Option, where s has fewer there, as `LoadPromise` says.
 #[tactic(auto, using(crate::proofs::Library::from_le_bytes_8))]
 pub fn load(s: &[u8], at: usize) -> u64
     ensures { LoadPromise word_bytes s.now at result }
@@ -31,7 +31,7 @@ pub fn load(s: &[u8], at: usize) -> u64
     u64::from_le_bytes(bytes_at(s, at))
 }
 
-// The number at the four bytes of s from at on; 0 where s has fewer there.
+// The number at the four bytes of s from at on; 0, and no Option, where s has fewer there, as `LoadPromise` says.
 #[tactic(auto, using(crate::proofs::Library::from_le_bytes_4))]
 pub fn load32(s: &[u8], at: usize) -> u32
     ensures { LoadPromise 4 s.now at result }

@@ -8,5 +8,5 @@ pub returns-then-self-eq0 : goal.returns-then-self-eq0
 returns-then-self-eq0 c =
     let j = c.args.self in
     let there : j.params.lanes ≤ length j.positions = search rules in
-    let zero = c.all_at_zero.ensures ∙ sym (first_all (λ block. eqb block 0) j.positions j.params.lanes there) in
+    let zero = c.zero_from.ensures ∙ sym (first_all (λ block. eqb block 0) j.positions j.params.lanes there) in
     search (rules, nat_tests, zero)
