@@ -5,7 +5,7 @@
 ghost use Rattle.argon2.specs.Promises.{StartPromise, StepPromise, FinishPromise, HashPromise, FillMemoryPromise};
 
 use answer::Refusal;
-use checks::{Rule, WORDS, check_fill, check_start};
+use checks::{Lengths, Rule, WORDS, check_fill, check_start};
 use filling::{fill_all, fill_blocks};
 use initial::initial_hash;
 pub use job::Job;
@@ -24,7 +24,8 @@ pub fn hash_password_into_with_memory(
         words.old out.old result words.new out.new }
 {
     let rule = Rule::plain();
-    check_start(rule, WORDS, params, out.len(), inputs, words.len())?;
+    let lengths = Lengths::of(inputs);
+    check_start(rule, WORDS, params, out.len(), lengths, words.len())?;
     let h = initial_hash(params, out.len(), inputs);
     first_blocks(words, params, h);
     fill_all(words, params);
@@ -38,7 +39,8 @@ pub fn fill_memory(params: Params, inputs: Inputs, words: &mut [u64]) -> Result<
         words.old result words.new }
 {
     let rule = Rule::plain();
-    check_fill(rule, WORDS, params, inputs, words.len())?;
+    let lengths = Lengths::of(inputs);
+    check_fill(rule, WORDS, params, lengths, words.len())?;
     let h = initial_hash(params, 0, inputs);
     first_blocks(words, params, h);
     fill_all(words, params);
@@ -51,7 +53,8 @@ pub fn start(params: Params, tag: usize, inputs: Inputs, words: &mut [u64]) -> R
         words.old result words.new }
 {
     let rule = Rule::plain();
-    check_start(rule, WORDS, params, tag, inputs, words.len())?;
+    let lengths = Lengths::of(inputs);
+    check_start(rule, WORDS, params, tag, lengths, words.len())?;
     let h = initial_hash(params, tag, inputs);
     first_blocks(words, params, h);
     Ok(Job::start(params, tag))

@@ -10,6 +10,8 @@ use answer::{Refusal, check_length};
 use blake2b_compression::{Compression, Count, compress};
 use word::store_words;
 
+// What was taken: the state, the bytes that no block was made of yet, and the count of the others. An array with how much of it is filled,
+// where there could be a Vec: no library has a heap.
 #[derive(Clone, Copy)]
 pub struct Engine {
     h: [u64; Compression::STATE],
@@ -74,7 +76,7 @@ impl Engine {
         for byte in piece {
             if Compression::BLOCK <= filled {
                 count = count.add(Compression::BLOCK as u64);
-                let g = compress(h, buffer, count.low, count.high, false);
+                let g = compress(h, buffer, count, false);
                 h = g;
                 buffer = [0u8; Compression::BLOCK];
                 filled = 0;
@@ -95,7 +97,7 @@ impl Engine {
         ensures { EndPromise self result }
     {
         let count = self.count.add(self.filled as u64);
-        let h = compress(self.h, self.buffer, count.low, count.high, true);
+        let h = compress(self.h, self.buffer, count, true);
         let mut d = [0u8; Self::MAX_OUTPUT];
         store_words(&h, &mut d);
         d

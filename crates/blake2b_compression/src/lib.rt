@@ -52,6 +52,26 @@ impl Compression {
     ];
 }
 
+// A count of bytes, of 128 bits.
+#[derive(Clone, Copy)]
+pub struct Count {
+    pub low: u64,
+    pub high: u64,
+}
+
+impl Count {
+    // The count with n more bytes.
+    pub fn add(self, n: u64) -> Count
+        ensures { AddPromise self n result }
+    {
+        let (low, carry) = self.low.overflowing_add(n);
+        Count {
+            low,
+            high: self.high.wrapping_add(u64::from(carry)),
+        }
+    }
+}
+
 // What word 14 is flipped by: all bits in the last block, else none.
 #[tactic(auto, unfolding(crate::specs::Compression::flips))]
 fn flips_of(last: bool) -> u64
@@ -97,40 +117,19 @@ fn folded(h: [u64; Compression::STATE], v: [u64; Compression::WORDS]) -> [u64; C
     std::array::from_fn(|i| h[i] ^ v[i] ^ v[i + Compression::STATE])
 }
 
-// The state h after a block, with the count of bytes up to the block's end, in two words, and the mark of the last block.
+// The state h after a block, with the count of bytes up to the block's end and the mark of the last block.
 #[tactic(auto, unfolding(crate::specs::Compression::F))]
 pub fn compress(
     h: [u64; Compression::STATE],
     block: [u8; Compression::BLOCK],
-    low: u64,
-    high: u64,
+    count: Count,
     last: bool,
 ) -> [u64; Compression::STATE]
-    ensures { CompressPromise h block low high last result }
+    ensures { CompressPromise h block count.low count.high last result }
 {
     let mut m = [0u64; Compression::WORDS];
     load_words(&block, &mut m);
-    let v = vector(h, low, high, last);
+    let v = vector(h, count.low, count.high, last);
     let w = all_rounds(v, m);
     folded(h, w)
-}
-
-// A count of bytes, of 128 bits.
-#[derive(Clone, Copy)]
-pub struct Count {
-    pub low: u64,
-    pub high: u64,
-}
-
-impl Count {
-    // The count with n more bytes.
-    pub fn add(self, n: u64) -> Count
-        ensures { AddPromise self n result }
-    {
-        let (low, carry) = self.low.overflowing_add(n);
-        Count {
-            low,
-            high: self.high.wrapping_add(u64::from(carry)),
-        }
-    }
 }

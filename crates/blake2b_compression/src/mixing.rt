@@ -55,7 +55,8 @@ fn one_round(
     g(v7, 3, 4, 9, 14, w[14], w[15])
 }
 
-// All rounds on v. The schedule is laid out once, before the loop.
+// All rounds on v. The schedule is laid out once, before the loop. `v = one_round(..)` is two statements, since no proof covers a call's
+// array that goes straight into a variable.
 pub(crate) fn all_rounds(
     v: [u64; Compression::WORDS],
     m: [u64; Compression::WORDS],

@@ -132,7 +132,7 @@ impl Block {
         }
     }
 
-    // The block of some bytes, whose words are little-endian.
+    // The block of some bytes, whose words are little-endian; no From, which would not say so, as std's `from_le_bytes` is none.
     pub fn from_bytes(bytes: [u8; Block::SIZE]) -> Block
         ensures { FromBytesPromise bytes result }
     {

@@ -6,8 +6,12 @@ use Rattle.std.specs.Prelude.{⊤, Option, Result}
 use Rattle.answer.specs.declared.Refusal.{Refusal}
 use Rattle.answer.proofs.Numbers.{injective}
 use Rattle.params.specs.declared.Params.{Params}
-use Rattle.checks.specs.Promises.{PlainPromise, CheckOutputPromise, TooLittlePromise, CheckStartPromise, CheckFillPromise}
+use Rattle.checks.specs.Promises.{LengthsPromise, PlainPromise, CheckOutputPromise, TooLittlePromise, CheckStartPromise, CheckFillPromise}
+use Rattle.checks.specs.declared.Lengths.{Lengths}
 use Rattle.checks.specs.declared.Rule.{Rule}
+
+pub lengths_settled : {password salt secret ad : ℕ} {r r' : Lengths} → LengthsPromise password salt secret ad r → LengthsPromise password salt secret ad r' → r ≡ r'
+lengths_settled p p' = p.result ∙ sym p'.result
 
 pub plain_settled : {r r' : Rule} → PlainPromise r → PlainPromise r' → r ≡ r'
 plain_settled p p' = p.result ∙ sym p'.result

@@ -5,7 +5,11 @@ use Rattle.answer.specs.declared.Refusal.{Refusal}
 use Rattle.params.specs.declared.Params.{Params}
 use Rattle.word.specs.Word.{max_length}
 use Rattle.checks.specs.Rows.{plain, output_rows, too_little, start_rows, fill_rows}
+use Rattle.checks.specs.declared.Lengths.{Lengths}
 use Rattle.checks.specs.declared.Rule.{Rule}
+
+pub record LengthsPromise (password salt secret ad : ℕ) (r : Lengths) : Type 0 where
+  pub result : r ≡ record { password = password; salt = salt; secret = secret; ad = ad }
 
 pub record PlainPromise (r : Rule) : Type 0 where
   pub result : r ≡ plain

@@ -7,7 +7,7 @@ ghost use Rattle.std.specs.Prelude.{◌≡◌, ◌++◌, length};
 ghost use Rattle.answer.specs.Answers.{number, first};
 ghost use Rattle.params.specs.Limits.{rows_from};
 ghost use Rattle.checks.specs.Rows.{extra_rows, input_rows};
-ghost use Rattle.checks.specs.Promises.{PlainPromise, CheckOutputPromise, TooLittlePromise, CheckStartPromise, CheckFillPromise};
+ghost use Rattle.checks.specs.Promises.{LengthsPromise, PlainPromise, CheckOutputPromise, TooLittlePromise, CheckStartPromise, CheckFillPromise};
 
 use answer::{Refusal, check_length};
 use block::Block;
@@ -24,6 +24,30 @@ pub struct Rule {
     pub oldest: u32,
     // The least salt, in bytes.
     pub salt: usize,
+}
+
+// How many bytes each input has.
+#[derive(Clone, Copy)]
+pub struct Lengths {
+    pub password: usize,
+    pub salt: usize,
+    pub secret: usize,
+    pub ad: usize,
+}
+
+impl Lengths {
+    // The lengths of these inputs.
+    pub fn of(inputs: Inputs) -> Lengths
+        ensures { LengthsPromise (length inputs.entry.password.now) (length inputs.entry.salt.now) (length inputs.entry.secret.now)
+            (length inputs.entry.ad.now) result }
+    {
+        Lengths {
+            password: inputs.password.len(),
+            salt: inputs.salt.len(),
+            secret: inputs.secret.len(),
+            ad: inputs.ad.len(),
+        }
+    }
 }
 
 impl Rule {
@@ -52,11 +76,11 @@ fn check_extra(secret: usize, ad: usize) -> Result<(), Refusal>
 }
 
 // Rows 1 to 10.
-fn check_numbers(rule: Rule, params: Params, inputs: Inputs) -> Result<(), Refusal>
-    ensures { number result ≡ first (rows_from rule.oldest params ++ extra_rows (length inputs.entry.secret.now) (length inputs.entry.ad.now)) }
+fn check_numbers(rule: Rule, params: Params, lengths: Lengths) -> Result<(), Refusal>
+    ensures { number result ≡ first (rows_from rule.oldest params ++ extra_rows lengths.secret lengths.ad) }
 {
     params.check_from(rule.oldest)?;
-    check_extra(inputs.secret.len(), inputs.ad.len())
+    check_extra(lengths.secret, lengths.ad)
 }
 
 // Rows 11 and 12, by the configured length.
@@ -69,7 +93,8 @@ pub fn check_output(configured: Option<u32>, n: usize) -> Result<(), Refusal>
     }
 }
 
-// Row 16: whether what is lent is too little for the blocks.
+// Row 16: whether what is lent is too little for the blocks. Unit, parameters and what is lent stay three arguments: each caller has them
+// apart, and would make a type of them for one call.
 pub fn too_little(unit: u32, params: Params, lent: usize) -> bool
     ensures { TooLittlePromise unit params lent result }
 {
@@ -81,18 +106,18 @@ fn check_inputs(
     least: usize,
     unit: u32,
     params: Params,
-    inputs: Inputs,
+    lengths: Lengths,
     lent: usize,
 ) -> Result<(), Refusal>
-    ensures { number result ≡ first (input_rows least unit params (length inputs.entry.password.now) (length inputs.entry.salt.now) lent) }
+    ensures { number result ≡ first (input_rows least unit params lengths.password lengths.salt lent) }
 {
-    if MAX_LENGTH < inputs.password.len() {
+    if MAX_LENGTH < lengths.password {
         return Err(Refusal::PwdTooLong);
     }
-    if inputs.salt.len() < least {
+    if lengths.salt < least {
         return Err(Refusal::SaltTooShort);
     }
-    if MAX_LENGTH < inputs.salt.len() {
+    if MAX_LENGTH < lengths.salt {
         return Err(Refusal::SaltTooLong);
     }
     if too_little(unit, params, lent) {
@@ -107,14 +132,14 @@ pub fn check_start(
     unit: u32,
     params: Params,
     tag: usize,
-    inputs: Inputs,
+    lengths: Lengths,
     lent: usize,
 ) -> Result<(), Refusal>
-    ensures { CheckStartPromise rule unit params tag (length inputs.entry.password.now) (length inputs.entry.salt.now) (length inputs.entry.secret.now) (length inputs.entry.ad.now) lent result }
+    ensures { CheckStartPromise rule unit params tag lengths.password lengths.salt lengths.secret lengths.ad lent result }
 {
-    check_numbers(rule, params, inputs)?;
+    check_numbers(rule, params, lengths)?;
     check_output(params.configured, tag)?;
-    check_inputs(rule.salt, unit, params, inputs, lent)
+    check_inputs(rule.salt, unit, params, lengths, lent)
 }
 
 // Rows 1 to 10 and 13 to 16.
@@ -122,11 +147,11 @@ pub fn check_fill(
     rule: Rule,
     unit: u32,
     params: Params,
-    inputs: Inputs,
+    lengths: Lengths,
     lent: usize,
 ) -> Result<(), Refusal>
-    ensures { CheckFillPromise rule unit params (length inputs.entry.password.now) (length inputs.entry.salt.now) (length inputs.entry.secret.now) (length inputs.entry.ad.now) lent result }
+    ensures { CheckFillPromise rule unit params lengths.password lengths.salt lengths.secret lengths.ad lent result }
 {
-    check_numbers(rule, params, inputs)?;
-    check_inputs(rule.salt, unit, params, inputs, lent)
+    check_numbers(rule, params, lengths)?;
+    check_inputs(rule.salt, unit, params, lengths, lent)
 }

@@ -1,4 +1,5 @@
-// The C boundary (host/crabuledda.h): numbers pass as themselves, a slice as a pointer and then a length.
+// The C boundary (host/crabuledda.h): numbers pass as themselves, a slice as a pointer and then a length. The parameters are written out,
+// twice the same ones, as C declares them.
 
 #![tactic(auto)]
 

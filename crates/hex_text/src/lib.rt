@@ -6,7 +6,7 @@ ghost use Rattle.std.specs.Prelude.{◌<◌, ◌≡◌};
 ghost use Rattle.hex_text.specs.Hex.{digit_of};
 ghost use Rattle.hex_text.specs.Promises.{DigitsPromise, WritePromise};
 
-// The digit of a number under 16.
+// The digit of a number under 16. No `{:x}`: std's formatting says nothing of the bytes that it writes.
 fn digit(n: u8) -> u8
     requires { n < 16 }
     ensures { result ≡ digit_of n }

@@ -103,7 +103,7 @@ unfolding consistent
 whole j a b c d =
     and_of (and_of (and_of (eq-eqb (first (rows j.params)) 0 a) (eq-eqb (first (output_rows j.params.configured j.tag)) 0 b)) c) d
 
--- the job that a refused start hands back is not
+-- the job of zeros, which stands for the job that a refused start does not give, is not consistent
 pub zeros_inconsistent : consistent zero_job ≡ false
 unfolding consistent zero_job
 zeros_inconsistent = refl

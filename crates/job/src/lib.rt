@@ -58,7 +58,7 @@ fn positions_at(lanes: u32, block: u32) -> [u32; Job::LANES]
 impl Job {
     pub const LANES: usize = Params::MAX_LANES as usize;
 
-    // The job that a refused start hands back.
+    // The job that stands for the one that a refused start does not give.
     #[tactic(auto, unfolding(crate::specs::Jobs::zero_job))]
     pub fn zeros() -> Job
         ensures { ZerosPromise result }

@@ -1,4 +1,4 @@
-// Lent memory as the recorded runs have it: what it holds before a call, by a rule, and a digest of what it holds after.
+// Lent memory as the recorded runs have it: what it holds before a call, by a rule, and a digest of what it holds after; and random words.
 
 #![tactic(auto)]
 

@@ -17,6 +17,8 @@ use initial::first_words;
 use params::Params;
 use position::{BlockNumber, LaneNumber};
 
+// Words and parameters stay two arguments here: a struct that holds the words by `&mut` gives the calls through it no values (filling).
+
 // Whether rows 1 to 8 accept the parameters and so many words hold all their blocks.
 #[tactic(auto, using(std::proofs::lemmas::Bool::Decides::nat_tests), unfolding(crate::specs::Lent::lent))]
 pub fn is_lent(params: Params, words: usize) -> bool

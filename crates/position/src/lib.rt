@@ -69,6 +69,8 @@ fn in_lane(segment: u32, slice: u32, block: u32) -> bool
     slice < Params::SYNC_POINTS && block < segment
 }
 
+// A slice and a block of it are two arguments here and below: callers count both, and would make a type of them for each call.
+
 // The column of a block of a slice; 0, and no Option, where a lane has no such block, as `ColumnPromise` says.
 #[tactic(auto, using(params::proofs::Sizes::lane_le, crate::proofs::Columns::in_lane_facts, crate::proofs::Lane::slice_le, std::proofs::lemmas::Bool::Decides::nat_tests))]
 pub fn column(params: Params, slice: u32, block: u32) -> BlockNumber
@@ -199,7 +201,7 @@ impl Slice {
 }
 
 // The lane and the block within it that a block of a segment refers to, where word is its random word. The first of document 01's rows 3 to
-// 7 and 17 that holds is the refusal.
+// 7 and 17 that holds is the refusal. Numbers and no Params: no caller need invent an algorithm for it.
 pub fn reference_position(
     lanes: u32,
     memory: u32,

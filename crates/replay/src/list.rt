@@ -11,7 +11,7 @@ pub(crate) const MOST: usize = 256;
 // The numbers that a case of the hashes or of the jobs begins with, behind its line.
 #[derive(Clone, Copy)]
 pub(crate) struct Case {
-    // The call, by its recorded number.
+    // The call, by its recorded number: hashes and jobs have calls of their own.
     pub(crate) kind: u64,
     pub(crate) params: Params,
     // The tag's length.
@@ -51,17 +51,28 @@ fn configured(n: u64) -> Option<u32> {
     n.checked_sub(1).map(low)
 }
 
+// Reads until the bytes are full, the list ends or a read fails. No read_exact, which says nothing of bytes that it does not fill.
+fn read_full<R: Read>(list: &mut R, bytes: &mut [u8]) {
+    let mut done = 0;
+    while done < bytes.len() {
+        match list.read(&mut bytes[done..]) {
+            Ok(0) | Err(_) => return,
+            Ok(n) => done += n,
+        }
+    }
+}
+
 // The next number; behind the list's end its bytes are 0.
 pub(crate) fn number<R: Read>(list: &mut R) -> u64 {
     let mut bytes = [0u8; 8];
-    let _ = list.read_exact(&mut bytes);
+    read_full(list, &mut bytes);
     u64::from_le_bytes(bytes)
 }
 
 // The next text, in a room of zeros; behind the list's end its bytes are 0.
 pub(crate) fn next_text<'a, R: Read>(list: &mut R, room: &'a mut [u8; MOST]) -> &'a [u8] {
     let text = front(room, number(list));
-    let _ = list.read_exact(text);
+    read_full(list, text);
     text
 }
 

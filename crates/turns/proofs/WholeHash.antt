@@ -5,7 +5,7 @@ use mathlib.Core.List.{List}
 use Prim.Native.Nat.{ℕ}
 use lib.ListN.{length}
 use Rattle.answer.specs.Answers.{number}
-use Rattle.std.specs.Prelude.{⊤, Result as Answer}
+use Rattle.std.specs.Prelude.{⊤, Result as StdResult}
 use Rattle.answer.specs.declared.Refusal.{Refusal}
 use Rattle.params.specs.declared.Params.{Params}
 use Rattle.argon2.specs.Argon2.{argon2}
@@ -36,6 +36,6 @@ module _ (P : Params) (password salt secret ad w out : List ℕ) where
       )
 
   -- the same of what the call hands back: an answer of 0 says that the output is Argon2 of the inputs
-  pub promised_tag : {r : Answer ⊤ Refusal} {w' out' : List ℕ} → HashPromise P password salt secret ad w out r w' out' → number r ≡ 0
+  pub promised_tag : {r : StdResult ⊤ Refusal} {w' out' : List ℕ} → HashPromise P password salt secret ad w out r w' out' → number r ≡ 0
       → out' ≡ argon2 P (length out) password salt secret ad
   promised_tag p z = p.output ∙ (hash_tag (sym hash_answer ∙ sym p.answer ∙ z)).1

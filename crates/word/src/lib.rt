@@ -31,7 +31,8 @@ pub fn load(s: &[u8], at: usize) -> u64
     u64::from_le_bytes(bytes_at(s, at))
 }
 
-// The number at the four bytes of s from at on; 0, and no Option, where s has fewer there, as `LoadPromise` says.
+// The number at the four bytes of s from at on; 0, and no Option, where s has fewer there, as `LoadPromise` says. A
+// function beside `load`, since std's `from_le_bytes` is of one type; what the two share is `bytes_at`.
 #[tactic(auto, using(crate::proofs::Library::from_le_bytes_4))]
 pub fn load32(s: &[u8], at: usize) -> u32
     ensures { LoadPromise 4 s.now at result }

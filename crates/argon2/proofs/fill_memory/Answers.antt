@@ -17,7 +17,7 @@ unfolding memory_filled
 returns-in_err-check_fill c =
     let a = c.args in
     let i = a.inputs in
-    let refused = rw c.plain-rule.ensures.result at c.in_err-check_fill.ensures.answer in
+    let refused = rw (c.plain-rule.ensures.result, c.of-lengths.ensures.result) at c.in_err-check_fill.ensures.answer in
     record {
       answer = handed_on _ _ c.from_residual.ensures.1 refused;
       memory = left_refused c.in_err-check_fill.field-0.0 (filled a.params 0 i.password.now i.salt.now i.secret.now i.ad.now a.words.now) a.words.now refused;
@@ -30,7 +30,7 @@ returns c =
     let i = a.inputs in
     let n = first (fill_rows plain block_words a.params (length i.password.now) (length i.salt.now) (length i.secret.now) (length i.ad.now) (length a.words.now)) in
     let end = filled a.params 0 i.password.now i.salt.now i.secret.now i.ad.now a.words.now in
-    let checked = rw c.plain-rule.ensures.result at c.in_ok-check_fill.ensures.answer in
+    let checked = rw (c.plain-rule.ensures.result, c.of-lengths.ensures.result) at c.in_ok-check_fill.ensures.answer in
     let accepted : n ≡ 0 = sym checked in
     let lent = fill_lent a.params (length i.password.now) (length i.salt.now) (length i.secret.now) (length i.ad.now) (length a.words.now) accepted in
     record {

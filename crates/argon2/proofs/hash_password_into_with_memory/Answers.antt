@@ -20,7 +20,7 @@ returns-in_err-check_start c =
     let a = c.args in
     let i = a.inputs in
     let end = filled a.params (length a.out.now) i.password.now i.salt.now i.secret.now i.ad.now a.words.now in
-    let refused = rw c.plain-rule.ensures.result at c.in_err-check_start.ensures.answer in
+    let refused = rw (c.plain-rule.ensures.result, c.of-lengths.ensures.result) at c.in_err-check_start.ensures.answer in
     record {
       answer = handed_on _ _ c.from_residual.ensures.1 refused;
       memory = left_refused c.in_err-check_start.field-0.0 end a.words.now refused;
@@ -34,7 +34,7 @@ returns c =
     let i = a.inputs in
     let n = first (start_rows plain block_words a.params (length a.out.now) (length i.password.now) (length i.salt.now) (length i.secret.now) (length i.ad.now) (length a.words.now)) in
     let end = filled a.params (length a.out.now) i.password.now i.salt.now i.secret.now i.ad.now a.words.now in
-    let checked = rw c.plain-rule.ensures.result at c.in_ok-check_start.ensures in
+    let checked = rw (c.plain-rule.ensures.result, c.of-lengths.ensures.result) at c.in_ok-check_start.ensures in
     let accepted : n ≡ 0 = sym checked.answer in
     let lent = start_lent a.params (length i.password.now) (length i.salt.now) (length i.secret.now) (length i.ad.now) (length a.words.now) (length a.out.now) accepted in
     let some = start_some a.params (length i.password.now) (length i.salt.now) (length i.secret.now) (length i.ad.now) (length a.words.now) (length a.out.now) accepted in

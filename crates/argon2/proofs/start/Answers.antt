@@ -22,7 +22,7 @@ returns-in_err-check_start c =
     let a = c.args in
     let i = a.inputs in
     let begin = start_memory (initial_hash a.params a.tag i.password.now i.salt.now i.secret.now i.ad.now) a.params.lanes (segment a.params) a.words.now in
-    let refused = rw c.plain-rule.ensures.result at c.in_err-check_start.ensures.answer in
+    let refused = rw (c.plain-rule.ensures.result, c.of-lengths.ensures.result) at c.in_err-check_start.ensures.answer in
     let is_err = err_from_is_err_and c.from_residual.result c.from_residual.ensures.1 in
     record {
       answer = handed_on _ _ c.from_residual.ensures.1 refused;
@@ -39,7 +39,7 @@ returns c =
     let i = a.inputs in
     let n = first (start_rows plain block_words a.params a.tag (length i.password.now) (length i.salt.now) (length i.secret.now) (length i.ad.now) (length a.words.now)) in
     let begin = start_memory (initial_hash a.params a.tag i.password.now i.salt.now i.secret.now i.ad.now) a.params.lanes (segment a.params) a.words.now in
-    let checked = rw c.plain-rule.ensures.result at c.in_ok-check_start.ensures.answer in
+    let checked = rw (c.plain-rule.ensures.result, c.of-lengths.ensures.result) at c.in_ok-check_start.ensures.answer in
     let accepted : n ≡ 0 = sym checked in
     let lent = start_lent a.params (length i.password.now) (length i.salt.now) (length i.secret.now) (length i.ad.now) (length a.words.now) a.tag accepted in
     record {

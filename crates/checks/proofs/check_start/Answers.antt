@@ -1,5 +1,5 @@
 -- `checks::check_start` meets its contract: rows 11 and 12 come after rows 1 to 10, and rows 13 to 16 after them. Assumes nothing.
-use Rattle.std.proofs.Common.{length, ◌++◌, refl}
+use Rattle.std.proofs.Common.{◌++◌, refl}
 use Rattle.answer.proofs.Answered.{handed_on, not_accepted, part_refused, part_passed}
 use Rattle.params.specs.Limits.{rows_from}
 use Rattle.checks.specs.Rows.{extra_rows, output_rows, input_rows}
@@ -8,10 +8,10 @@ use Rattle.checks.proofs.check_start.Goals as goal
 pub returns-in_err-check_numbers : goal.returns-in_err-check_numbers
 returns-in_err-check_numbers c =
     let a = c.args in
-    let i = a.inputs in
-    let numbers = rows_from a.rule.oldest a.params ++ extra_rows (length i.secret.now) (length i.ad.now) in
+    let l = a.lengths in
+    let numbers = rows_from a.rule.oldest a.params ++ extra_rows l.secret l.ad in
     let output = output_rows a.params.configured a.tag in
-    let input = input_rows a.rule.salt a.unit a.params (length i.password.now) (length i.salt.now) a.lent in
+    let input = input_rows a.rule.salt a.unit a.params l.password l.salt a.lent in
     record {
       answer = handed_on _ _ c.from_residual.ensures.1 (part_refused _ numbers (output ++ input) c.in_err-check_numbers.ensures);
       fits = λ z. absurd (not_accepted _ _ c.from_residual.ensures.1 z);
@@ -20,10 +20,10 @@ returns-in_err-check_numbers c =
 pub returns-in_err-check_output : goal.returns-in_err-check_output
 returns-in_err-check_output c =
     let a = c.args in
-    let i = a.inputs in
-    let numbers = rows_from a.rule.oldest a.params ++ extra_rows (length i.secret.now) (length i.ad.now) in
+    let l = a.lengths in
+    let numbers = rows_from a.rule.oldest a.params ++ extra_rows l.secret l.ad in
     let output = output_rows a.params.configured a.tag in
-    let input = input_rows a.rule.salt a.unit a.params (length i.password.now) (length i.salt.now) a.lent in
+    let input = input_rows a.rule.salt a.unit a.params l.password l.salt a.lent in
     let residual = c.from_residual-in_err-check_output.ensures.1 in
     record {
       answer =
@@ -35,10 +35,10 @@ returns-in_err-check_output c =
 pub returns : goal.returns
 returns c =
     let a = c.args in
-    let i = a.inputs in
-    let numbers = rows_from a.rule.oldest a.params ++ extra_rows (length i.secret.now) (length i.ad.now) in
+    let l = a.lengths in
+    let numbers = rows_from a.rule.oldest a.params ++ extra_rows l.secret l.ad in
     let output = output_rows a.params.configured a.tag in
-    let input = input_rows a.rule.salt a.unit a.params (length i.password.now) (length i.salt.now) a.lent in
+    let input = input_rows a.rule.salt a.unit a.params l.password l.salt a.lent in
     record {
       answer =
           part_passed numbers (output ++ input) tt c.in_ok-check_numbers.ensures

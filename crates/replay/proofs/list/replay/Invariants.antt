@@ -1,3 +1,4 @@
+-- `replay::list::replay` is safe: the rule may be called on, and no more cases agree than were read. Assumes nothing.
 use Rattle.std.proofs.Common.{◌≤◌}
 use Rattle.replay.proofs.list.replay.Given as goal
 
