@@ -1,6 +1,6 @@
 -- What std's methods give is what the RFCs' definitions say: a rotation, and the little-endian order of bytes both ways. Assumes nothing.
 use Prim.Native.Nat.{ℕ, ◌+◌, ◌-◌, ◌*◌, ◌/◌, ◌%◌, ◌^◌, ◌<◌}
-use mathlib.Core.List.{List}
+use mathlib.Core.List.{List, [], ◌∷◌}
 use mathlib.Core.Path.{◌≡◌, refl, sym, ap, ◌∙◌, subst}
 use native.Mathlib.Nat.{add_comm, add-zero, div-div-eq-div-mul}
 use native.Mathlib.Omega.{arith}
@@ -9,6 +9,7 @@ use lib.ListN.{length, get_or}
 use lib.Pow.{pow_pos, shr_lt}
 use Rattle.std.proofs.lemmas.Nat.{mod-pow-add, shl-shr, mod_low}
 use Rattle.std.specs.Int.{w32, w64, rotate_right, to_le_bytes, from_le_bytes}
+use Rattle.word.specs.Promises.{RotatePromise, FromLePromise, ToLePromise}
 use Rattle.word.specs.Table.{table}
 use Rattle.word.specs.Word.{rotr, from_le, to_le}
 use Rattle.word.proofs.Table.{is_table}
@@ -48,3 +49,16 @@ from_le_bytes_8 bs is = omega (arith, ap from_le (is_table (λ k. get_or bs k 0)
 pub from_le_bytes_4 : (bs : List ℕ) → length bs ≡ 4 → from_le_bytes w32 bs ≡ from_le bs
 unfolding table
 from_le_bytes_4 bs is = omega (arith, ap from_le (is_table (λ k. get_or bs k 0) 4 bs is (λ k b. refl)))
+
+-- and so these methods keep the promises of a rotation and of a number's bytes
+pub rotates : (n x : ℕ) → 0 < n → n < 64 → x < 2 ^ 64 → RotatePromise n x (rotate_right w64 x n)
+rotates n x some less h = record { result = rotate_right_is_rotr n x some less h }
+
+pub reads : (a b c d e f g h : ℕ) → FromLePromise a b c d e f g h (from_le_bytes w64 (a ∷ b ∷ c ∷ d ∷ e ∷ f ∷ g ∷ h ∷ []))
+reads a b c d e f g h = record { result = from_le_bytes_8 (a ∷ b ∷ c ∷ d ∷ e ∷ f ∷ g ∷ h ∷ []) refl }
+
+pub writes_8 : (x : ℕ) → ToLePromise 8 x (to_le_bytes w64 x)
+writes_8 x = record { result = to_le_bytes_8 x }
+
+pub writes_4 : (x : ℕ) → ToLePromise 4 x (to_le_bytes w32 x)
+writes_4 x = record { result = to_le_bytes_4 x }
