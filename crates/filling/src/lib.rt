@@ -122,6 +122,10 @@ fn fill_part(words: &mut [u64], params: Params, segment: Segment, blocks: Range<
     requires { Part params segment.pass segment.slice segment.lane.0 blocks.start blocks.end (length words.old) }
     ensures { words.new ≡ spec.fill_blocks params segment.pass segment.slice segment.lane.0 blocks.start blocks.end words.old }
 {
+    // No address block is made for no block.
+    if blocks.end <= blocks.start {
+        return;
+    }
     let mut addresses = if is_addressed(params, segment.pass, segment.slice) {
         Some(Addresses::of(params, segment, blocks.start))
     } else {
