@@ -1,4 +1,4 @@
--- `replay::list::agreeing` is safe: the rule may be called on, and no more cases agree than were read. Assumes nothing.
+-- `replay::list::agreeing` meets its contract: the rule may be called on, and no more cases agree than were read. Assumes nothing.
 use Rattle.std.proofs.Common.{◌≤◌}
 use Rattle.replay.proofs.list.agreeing.Given as goal
 
