@@ -1,48 +1,80 @@
--- An answer's number tells which answer it is: the table, read at the number of a refusal, gives that refusal back. Assumes nothing.
-use Prim.Native.Nat.{ℕ, zero, suc, ◌-◌}
+-- An answer's number tells which answer it is: the table, read at the number of an answer, gives that answer back. Assumes nothing.
+use Prim.Native.Nat.{ℕ, zero, suc, ◌<◌}
 use Rattle.std.specs.Prelude.{⊤, Result, Ok, Err}
 use mathlib.Core.Path.{◌≡◌, refl, sym, ap, ◌∙◌}
 use mathlib.Core.List.{List, [], ◌∷◌}
 use native.Mathlib.Omega.{arith}
+use lib.Dec.{lit<}
 use Rattle.answer.specs.Answers.{refusal, number}
 use Rattle.answer.specs.declared.Refusal.{Refusal}
 use Rattle.answer.specs.declared.Refusal.TheVariants.{AlgorithmInvalid, VersionInvalid, ThreadsTooFew, ThreadsTooMany, MemoryTooSmall, MemoryTooMuch, TimeTooSmall, TagTooShort, AdTooLong, SecretTooLong, OutputTooShort, OutputTooLong, PwdTooLong, SaltTooShort, SaltTooLong, MemoryTooLittle, Inconsistent, Complete, NoSuchLane, LaneFinished, NotComplete}
 
--- the refusal that stands at a place of the table
-abbrev at : List Refusal → ℕ → Refusal
-at [] n = NotComplete
-at (r ∷ rest) zero = r
-at (r ∷ rest) (suc n) = at rest n
+-- the answer that stands at a place of the table
+abbrev at : List (Result ⊤ Refusal) → ℕ → Result ⊤ Refusal
+at [] n = Ok tt
+at (a ∷ rest) zero = a
+at (a ∷ rest) (suc n) = at rest n
 
-abbrev table : List Refusal
+abbrev table : List (Result ⊤ Refusal)
 table =
-    AlgorithmInvalid ∷ VersionInvalid ∷ ThreadsTooFew ∷ ThreadsTooMany ∷ MemoryTooSmall ∷ MemoryTooMuch ∷ TimeTooSmall ∷ TagTooShort ∷ AdTooLong ∷ SecretTooLong ∷ OutputTooShort ∷ OutputTooLong ∷ PwdTooLong ∷ SaltTooShort ∷ SaltTooLong ∷ MemoryTooLittle ∷ Inconsistent ∷ Complete ∷ NoSuchLane ∷ LaneFinished ∷ NotComplete ∷ []
+    Ok tt ∷ Err AlgorithmInvalid ∷ Err VersionInvalid ∷ Err ThreadsTooFew ∷ Err ThreadsTooMany ∷ Err MemoryTooSmall ∷ Err MemoryTooMuch ∷ Err TimeTooSmall ∷ Err TagTooShort ∷ Err AdTooLong ∷ Err SecretTooLong ∷ Err OutputTooShort ∷ Err OutputTooLong ∷ Err PwdTooLong ∷ Err SaltTooShort ∷ Err SaltTooLong ∷ Err MemoryTooLittle ∷ Err Inconsistent ∷ Err Complete ∷ Err NoSuchLane ∷ Err LaneFinished ∷ Err NotComplete ∷ []
 
-read_back : (r : Refusal) → at table (refusal r - 1) ≡ r
-read_back AlgorithmInvalid = refl
-read_back VersionInvalid = refl
-read_back ThreadsTooFew = refl
-read_back ThreadsTooMany = refl
-read_back MemoryTooSmall = refl
-read_back MemoryTooMuch = refl
-read_back TimeTooSmall = refl
-read_back TagTooShort = refl
-read_back AdTooLong = refl
-read_back SecretTooLong = refl
-read_back OutputTooShort = refl
-read_back OutputTooLong = refl
-read_back PwdTooLong = refl
-read_back SaltTooShort = refl
-read_back SaltTooLong = refl
-read_back MemoryTooLittle = refl
-read_back Inconsistent = refl
-read_back Complete = refl
-read_back NoSuchLane = refl
-read_back LaneFinished = refl
-read_back NotComplete = refl
+read_back : (a : Result ⊤ Refusal) → at table (number a) ≡ a
+read_back (Ok x) = refl
+read_back (Err AlgorithmInvalid) = refl
+read_back (Err VersionInvalid) = refl
+read_back (Err ThreadsTooFew) = refl
+read_back (Err ThreadsTooMany) = refl
+read_back (Err MemoryTooSmall) = refl
+read_back (Err MemoryTooMuch) = refl
+read_back (Err TimeTooSmall) = refl
+read_back (Err TagTooShort) = refl
+read_back (Err AdTooLong) = refl
+read_back (Err SecretTooLong) = refl
+read_back (Err OutputTooShort) = refl
+read_back (Err OutputTooLong) = refl
+read_back (Err PwdTooLong) = refl
+read_back (Err SaltTooShort) = refl
+read_back (Err SaltTooLong) = refl
+read_back (Err MemoryTooLittle) = refl
+read_back (Err Inconsistent) = refl
+read_back (Err Complete) = refl
+read_back (Err NoSuchLane) = refl
+read_back (Err LaneFinished) = refl
+read_back (Err NotComplete) = refl
+
+-- the refusal that an answer is; any, where it accepts
+abbrev refused_by : Result ⊤ Refusal → Refusal
+refused_by (Ok x) = NotComplete
+refused_by (Err r) = r
 
 pub refusals_differ : {r s : Refusal} → refusal r ≡ refusal s → r ≡ s
-refusals_differ {r} {s} e = sym (read_back r) ∙ ap (λ n. at table (n - 1)) e ∙ read_back s
+refusals_differ {r} {s} e = ap refused_by (sym (read_back (Err r)) ∙ ap (at table) e ∙ read_back (Err s))
+
+-- two digits are enough to print a number
+pub number_lt : (a : Result ⊤ Refusal) → number a < 22
+number_lt (Ok x) = lit< tt
+number_lt (Err AlgorithmInvalid) = lit< tt
+number_lt (Err VersionInvalid) = lit< tt
+number_lt (Err ThreadsTooFew) = lit< tt
+number_lt (Err ThreadsTooMany) = lit< tt
+number_lt (Err MemoryTooSmall) = lit< tt
+number_lt (Err MemoryTooMuch) = lit< tt
+number_lt (Err TimeTooSmall) = lit< tt
+number_lt (Err TagTooShort) = lit< tt
+number_lt (Err AdTooLong) = lit< tt
+number_lt (Err SecretTooLong) = lit< tt
+number_lt (Err OutputTooShort) = lit< tt
+number_lt (Err OutputTooLong) = lit< tt
+number_lt (Err PwdTooLong) = lit< tt
+number_lt (Err SaltTooShort) = lit< tt
+number_lt (Err SaltTooLong) = lit< tt
+number_lt (Err MemoryTooLittle) = lit< tt
+number_lt (Err Inconsistent) = lit< tt
+number_lt (Err Complete) = lit< tt
+number_lt (Err NoSuchLane) = lit< tt
+number_lt (Err LaneFinished) = lit< tt
+number_lt (Err NotComplete) = lit< tt
 
 -- a refusal's number is not 0
 pub refused : (r : Refusal) → refusal r ≡ 0 → ⊥

@@ -1,10 +1,11 @@
--- The quarter step from the equations of its words, and the permutation from those of its quarter steps. Assumes nothing.
+-- The quarter step from the equations of its words, the permutation from those of its quarter steps, and the compression from those of its
+-- passes. Assumes nothing.
 use Rattle.std.proofs.Common.{◌≡◌, ℕ, List, [], ◌∷◌, length, get_or, sym, refl, ap, ◌∙◌, subst}
 use lib.Bits.{bit_xor}
 use Rattle.word.specs.Table.{table}
 use Rattle.word.specs.Word.{rotr}
 use Rattle.word.proofs.Table.{table_self}
-use Rattle.block.specs.Block.{row_words, R1, R2, R3, R4, multiply_add, quarter, quarter_at, permutation}
+use Rattle.block.specs.Block.{row_words, R1, R2, R3, R4, multiply_add, quarter, quarter_at, permutation, rows, columns, xors, compress}
 
 -- the quarter step, word after word
 pub quartered : (a b c d : ℕ) {a1 d1 c1 b1 a2 d2 c2 b2 : ℕ}
@@ -58,3 +59,8 @@ pub eight_steps : (v : List ℕ) → length v ≡ row_words → {c0 c1 c2 c3 d0 
     → rejoined d0 d1 d2 d3 ≡ permutation v
 unfolding worked
 eight_steps v e h₀ h₁ h₂ h₃ h₄ h₅ h₆ h₇ = cc (of_words v e)
+
+-- the compression from its passes, the last one first
+pub passed : (x y : List ℕ) {r q z w : List ℕ} → w ≡ xors z r → z ≡ columns q → q ≡ rows r → r ≡ xors x y → w ≡ compress x y
+unfolding compress
+passed x y e₄ e₃ e₂ e₁ = cc

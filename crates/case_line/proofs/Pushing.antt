@@ -2,13 +2,14 @@
 use Prim.Native.Nat.{ℕ, suc, ◌+◌, ◌*◌, ◌/◌, ◌%◌, ◌≤◌, ◌<◌}
 use mathlib.Core.List.{List, [], ◌∷◌, ◌++◌, append_assoc}
 use mathlib.Core.Path.{◌≡◌, refl, sym, ap, ◌∙◌}
+use native.Mathlib.Numerals.{add-one}
 use native.Mathlib.Omega.{arith}
 use borrow.Author.Tests.{lt-ltb, le-ltb}
-use lib.ListN.{length, drop, set, length-append, length-drop}
-use lib.Seq.{drop-cons, drop-drop, set-append_seam}
+use lib.ListN.{length, take, drop, get_or, set, length-append, length-drop}
+use lib.Seq.{drop-cons, drop-drop, set-append_seam, take_all, take-suc}
 use mathlib.Core.Bool.{true}
 use borrow.Author.Tests.{le-leb}
-use Rattle.hex_text.specs.Hex.{hex_digits, fits}
+use Rattle.hex_text.specs.Hex.{hex_of, hex_digits, fits}
 use Rattle.hex_text.specs.Promises.{WritePromise}
 use Rattle.hex_text.proofs.Text.{length_digits}
 use Rattle.case_line.specs.Lines.{tag_word, newline, tag_text, numbered_text, on_line, Written}
@@ -33,6 +34,35 @@ pushed {t} {d} {l} {i} {j} x w h e =
 -- a text by another name
 pub renamed : {t u d l : List ℕ} {i : ℕ} → t ≡ u → Written t d l i → Written u d l i
 renamed e w = rw e at w
+
+-- a line keeps its length
+pub same_length : {t d l : List ℕ} {i : ℕ} → Written t d l i → i ≤ length d → length l ≡ length d
+same_length {t} {d} {l} {i} w h = ap length w.bytes ∙ simp (length-append, length-drop) (omega (arith, w.count))
+
+-- the text is in the line, and is all of the first bytes that its count names
+pub within : {t d l : List ℕ} {i : ℕ} → Written t d l i → i ≤ length l
+within {t} {d} {l} {i} w = omega (arith, w.count, ap length w.bytes, length-append t (drop (length t) d))
+
+hex_snoc : (bs : List ℕ) (b : ℕ) → hex_digits (bs ++ (b ∷ [])) ≡ hex_digits bs ++ hex_of b
+unfolding hex_digits
+hex_snoc [] b = refl
+hex_snoc (x ∷ bs) b = ap (λ (l : List ℕ). hex_of x ++ l) (hex_snoc bs b)
+
+-- the digits of one byte more
+pub hex_more : (tag : List ℕ) (i : ℕ) → i < length tag → hex_digits (take (i + 1) tag) ≡ hex_digits (take i tag) ++ hex_of (get_or tag i 0)
+hex_more tag i h = rw (add-one, take-suc tag i 0) (hex_snoc (take i tag) (get_or tag i 0))
+
+two : (t u : List ℕ) (x y : ℕ) → ((t ++ u) ++ (x ∷ [])) ++ (y ∷ []) ≡ t ++ (u ++ (x ∷ y ∷ []))
+two t u x y = simp append_assoc
+
+-- the text of a tag, one byte more, and its end
+pub tag_more : (tag pair : List ℕ) (i : ℕ) → i < length tag → pair ≡ hex_of (get_or tag i 0)
+    → ((tag_word ++ hex_digits (take i tag)) ++ (get_or pair 0 0 ∷ [])) ++ (get_or pair 1 0 ∷ []) ≡ tag_word ++ hex_digits (take (i + 1) tag)
+tag_more tag pair i h e =
+    rw e (two tag_word (hex_digits (take i tag)) _ _ ∙ ap (λ (l : List ℕ). tag_word ++ l) (sym (hex_more tag i h)))
+
+pub tag_end : (tag : List ℕ) (i : ℕ) → length tag ≤ i → (tag_word ++ hex_digits (take i tag)) ++ newline ≡ tag_text tag
+tag_end tag i h = rw (take_all i tag h)
 
 -- the text of a number, of one digit and of two
 pub one_digit : (words : List ℕ) (n : ℕ) → n < 10 → (words ++ ((48 + n) ∷ [])) ++ newline ≡ numbered_text words n

@@ -89,3 +89,6 @@ holds s =
 -- what was parsed, told by its equation
 pub good_fits : (s : List ℕ) (c : Case) → parsed s ≡ Ok c → Fits s c × (length s ≤ longest)
 good_fits s c e = subst (Holds s) e (holds s)
+
+pub bad_digit : (s : List ℕ) (bad : BadInput) → parsed s ≡ Err bad → bad_number bad < 10
+bad_digit s bad e = subst (Holds s) e (holds s)

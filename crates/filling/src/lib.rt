@@ -118,7 +118,7 @@ fn fill_with(words: &mut [u64], params: Params, segment: Segment, block: u32, wo
 }
 
 // Fills blocks of a lane's segment, whose random words come from address blocks, or else from the blocks before.
-fn fill_part(words: &mut [u64], params: Params, segment: Segment, blocks: Range<u32>)
+fn fill_some(words: &mut [u64], params: Params, segment: Segment, blocks: Range<u32>)
     requires { Part params segment.pass segment.slice segment.lane.0 blocks.start blocks.end (length words.old) }
     ensures { words.new ≡ spec.fill_blocks params segment.pass segment.slice segment.lane.0 blocks.start blocks.end words.old }
 {
@@ -133,6 +133,16 @@ fn fill_part(words: &mut [u64], params: Params, segment: Segment, blocks: Range<
             None => previous_word(words, params, segment, block),
         };
         fill_with(words, params, segment, block, word);
+    }
+}
+
+// The same; where there is no block, no address block is made.
+fn fill_part(words: &mut [u64], params: Params, segment: Segment, blocks: Range<u32>)
+    requires { Part params segment.pass segment.slice segment.lane.0 blocks.start blocks.end (length words.old) }
+    ensures { words.new ≡ spec.fill_blocks params segment.pass segment.slice segment.lane.0 blocks.start blocks.end words.old }
+{
+    if blocks.start < blocks.end {
+        fill_some(words, params, segment, blocks);
     }
 }
 

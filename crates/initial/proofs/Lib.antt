@@ -1,4 +1,5 @@
 pub mod Header
 pub mod HashInput
+pub mod Laid
 pub mod MemoryCost
 pub mod Settled

@@ -17,7 +17,9 @@ use Rattle.params.specs.Limits.{rows, slices, max_lanes, segment, blocks}
 use Rattle.params.specs.declared.Params.{Params}
 use Rattle.params.proofs.Within.{Within, params_within, two}
 use Rattle.position.specs.Position.{first_block}
-use Rattle.checks.specs.Rows.{output_rows}
+use Rattle.checks.specs.Rows.{most_tag, output_rows}
+use Rattle.checks.proofs.Tags.{output_fits}
+use Rattle.word.specs.Word.{max_length}
 use Rattle.job.specs.Jobs.{all, position, tag_allowed, laid_out, complete, stands_complete, unfinished, stands_inside, consistent, moved, next_slice, onward, zero_job, step_rows, finish_rows}
 use Rattle.job.specs.declared.Job.{Job}
 use Rattle.job.proofs.Tests.{and-true, and_of, and-false, or_left, or_right, or_second, all_true, all_of, any_of, any_true}
@@ -242,6 +244,12 @@ finishing j n out e =
       fits = ltb-false n (block_words * blocks j.params) h.1.0;
       length = omega (arith, ltb-false out j.tag h.1.1.1.0, ltb-false j.tag out h.1.1.1.1.0);
     }
+
+-- an accepted output is one whose length 4 bytes count, where the configured length is
+pub finish_fits : (j : Job) (n out : ℕ) → most_tag j.params.configured ≤ max_length → first (finish_rows j n out) ≡ 0 → out ≤ max_length
+finish_fits j n out h e =
+    let f = finishing j n out e in
+    omega (arith, f.length, output_fits j.params.configured j.tag h f.complete.tag)
 
 pub finishing_accepted : (j : Job) (n out : ℕ) → Finishing j n out → first (finish_rows j n out) ≡ 0
 finishing_accepted j n out h =

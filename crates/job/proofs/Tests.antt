@@ -2,7 +2,8 @@
 use mathlib.Core.Path.{◌≡◌, refl, sym, ap, ◌∙◌, subst}
 use mathlib.Core.Logic.{◌⊎◌, inl, inr}
 use mathlib.Core.Bool.{Bool, true, false, ◌&&◌, ◌||◌, false≢true, true≢false}
-use Prim.Native.Nat.{ℕ, zero, suc, ◌<◌}
+use Prim.Native.Nat.{ℕ, zero, suc, ◌+◌, ◌<◌}
+use native.Mathlib.Numerals.{add-one}
 use native.Mathlib.Omega.{arith}
 use lib.Dec.{ltb}
 use borrow.Author.Tests.{ltb-true, ltb-false}
@@ -88,3 +89,15 @@ any_of_false (suc n) f h = ap (λ (t : Bool). t || f n) (any_of_false n f (λ i 
 pub or_none : (a : Bool) → a || false ≡ a
 or_none true = refl
 or_none false = refl
+
+-- one number more, as code counts
+pub any_one : (n : ℕ) (f : ℕ → Bool) → any (n + 1) f ≡ any n f || f n
+any_one n f = ap (λ (k : ℕ). any k f) (add-one n)
+
+pub all_one : (n : ℕ) (f : ℕ → Bool) → all (n + 1) f ≡ all n f && f n
+all_one n f = ap (λ (k : ℕ). all k f) (add-one n)
+
+-- two tests that agree under n
+pub all_same : (n : ℕ) (f g : ℕ → Bool) → ((i : ℕ) → f i ≡ g i) → all n f ≡ all n g
+all_same zero f g h = refl
+all_same (suc n) f g h = ap (λ (t : Bool). t && f n) (all_same n f g h) ∙ ap (λ (t : Bool). all n g && t) (h n)

@@ -21,8 +21,8 @@ use Rattle.position.specs.Position.{index}
 use Rattle.position.proofs.Referring.{index-lt}
 use Rattle.checks.specs.Rows.{too_little}
 use Rattle.memory.specs.Lent.{has, lent, Has, Lent}
-use Rattle.memory.specs.Memory.{block}
-use Rattle.memory.specs.Promises.{ReadBlockPromise, FirstBlocksPromise, WriteTagPromise}
+use Rattle.memory.specs.Memory.{block, put}
+use Rattle.memory.specs.Promises.{ReadBlockPromise, WriteBlockPromise, FirstBlocksPromise, WriteTagPromise}
 use Rattle.memory.specs.Start.{start_memory}
 use Rattle.memory.specs.Tag.{tag_of}
 
@@ -82,6 +82,9 @@ has_fact words b h = omega arith
 
 pub read_there : {w : List ℕ} {b : ℕ} {r : Block} → ReadBlockPromise w b r → Has (length w) b → r.words ≡ block b w
 read_there {w} {b} p there = p.words ∙ ap (λ (t : Bool). cond t (block b w) zeros) (has_true (length w) b there)
+
+pub write_there : {w : List ℕ} {b : ℕ} {x : Block} {w' : List ℕ} → WriteBlockPromise w b x w' → Has (length w) b → w' ≡ put b x.words w
+write_there {w} {b} {x} p there = p.memory ∙ ap (λ (t : Bool). cond t (put b x.words w) w) (has_true (length w) b there)
 
 -- memory that is lent
 pub first_there : {w : List ℕ} {P : Params} {h w' : List ℕ} → FirstBlocksPromise w P h w' → Lent P (length w)

@@ -24,6 +24,9 @@ pub record Leads (n : ℕ) (f : ℕ → List ℕ → List ℕ) (end w₀ w : Lis
   pub long : length w ≡ length w₀
   pub left : loop (n - i) i f w ≡ end
 
+pub leads_first : (n i : ℕ) (f : ℕ → List ℕ → List ℕ) (w : List ℕ) → Leads n f (loop (n - i) i f w) w w i
+leads_first n i f w = record { long = refl; left = refl }
+
 pub leads_zero : (n : ℕ) (f : ℕ → List ℕ → List ℕ) (w : List ℕ) → Leads n f (loop n 0 f w) w w 0
 leads_zero n f w =
     let m : n - 0 ≡ n = omega arith in

@@ -10,7 +10,9 @@ use Rattle.std.specs.Prelude.{Result, Ok, Err}
 use Rattle.std.specs.Result.{result_unwrap_or}
 use Rattle.answer.specs.Answers.{refusal, number, first}
 use Rattle.answer.specs.declared.Refusal.{Refusal}
+use Rattle.answer.specs.declared.Refusal.TheVariants.{Inconsistent}
 use Rattle.answer.proofs.Numbers.{refused}
+use Rattle.answer.proofs.Answered.{part_refused}
 use Rattle.answer.proofs.Rows.{first_passed}
 use Rattle.params.specs.Limits.{slices, cost_rows, segment_length, segment}
 use Rattle.params.specs.declared.Params.{Params}
@@ -67,6 +69,14 @@ module _ {p m t r sl l k x : ℕ} where
   refuses {e} a =
       let z : eqb (first (position_rows p m t r sl l k)) 0 ≡ false = ne_eqb (first (position_rows p m t r sl l k)) 0 (λ n. refused e (a ∙ n)) in
       record { answer = a; lane = rw z; block = rw z }
+
+  -- a refusal of the costs is the answer
+  pub refuses_costs : {e : Refusal} → refusal e ≡ first (cost_rows p m t) → ReferencePromise p m t r sl l k x (Err e)
+  refuses_costs {e} a = refuses (part_refused e (cost_rows p m t) (position_invalid p (segment_length m p) t r sl l k ∷ []) a)
+
+  -- else a block that no step fills is refused
+  pub refuses_position : first (cost_rows p m t) ≡ 0 → fills p (segment_length m p) t r sl l k ≡ false → ReferencePromise p m t r sl l k x (Err Inconsistent)
+  refuses_position h none = refuses (sym (past_costs p m t r sl l k h ∙ rw none))
 
   pub accepts : {o : Reference} → Within p m t → Filled p (segment_length m p) t r sl l k
       → o.lane.0 ≡ reference_lane p r sl l x → o.block.0 ≡ reference_column p (segment_length m p) r sl l k x

@@ -1,5 +1,7 @@
 // A packed list (oracle/pack): a count and so many cases, of numbers, 8 bytes little-endian, and of texts behind their counts.
 // A case begins with its line in the recorded list.
+ghost use Rattle.std.specs.Prelude.{◌≤◌, IfOk, length};
+
 use params::Params;
 use std::io::{Read, Write};
 use std::rt::Files;
@@ -70,7 +72,9 @@ pub(crate) fn number<R: Read>(list: &mut R) -> u64 {
 }
 
 // The next text, in a room of zeros; behind the list's end its bytes are 0.
-pub(crate) fn next_text<'a, R: Read>(list: &mut R, room: &'a mut [u8; MOST]) -> &'a [u8] {
+pub(crate) fn next_text<'a, R: Read>(list: &mut R, room: &'a mut [u8; MOST]) -> &'a [u8]
+    ensures { length result.now ≤ length room.old }
+{
     let text = front(room, number(list));
     read_full(list, text);
     text
@@ -83,7 +87,9 @@ pub(crate) fn is_next<R: Read>(list: &mut R, bytes: &[u8]) -> bool {
 }
 
 // As many elements as the number says, at most all of them.
-pub(crate) fn front<T>(all: &mut [T], n: u64) -> &mut [T] {
+pub(crate) fn front<T>(all: &mut [T], n: u64) -> &mut [T]
+    ensures { length result.now ≤ length all.old }
+{
     let count = all.len().min(n as usize);
     &mut all[..count]
 }
@@ -93,12 +99,35 @@ pub(crate) fn low(n: u64) -> u32 {
     word::low_half(n) as u32
 }
 
-// All cases of a list, by whether each agrees with what is recorded; a list that cannot be opened has none.
+// How many of so many cases agree with what is recorded; a line for each that does not.
+fn agreeing<R: Read, W: Write, A: FnMut(&mut R) -> bool>(
+    list: &mut R,
+    out: &mut W,
+    name: &str,
+    recorded: u64,
+    mut agrees: A,
+) -> io::Result<u64>
+    requires { A.IsAlwaysCallable agrees }
+    ensures { IfOk result (λ n. n ≤ recorded) }
+{
+    let mut agree = 0;
+    for _ in 0..recorded {
+        let line = number(list);
+        if agrees(list) {
+            agree += 1;
+        } else {
+            writeln!(out, "{name} differs: line {line}")?;
+        }
+    }
+    Ok(agree)
+}
+
+// All cases of a list; one that cannot be opened has none.
 pub(crate) fn replay<F: Files, W: Write, A: FnMut(&mut F::File) -> bool>(
     rt: &F,
     out: &mut W,
     name: &str,
-    mut agrees: A,
+    agrees: A,
 ) -> io::Result<()>
     requires { A.IsAlwaysCallable agrees }
 {
@@ -106,15 +135,7 @@ pub(crate) fn replay<F: Files, W: Write, A: FnMut(&mut F::File) -> bool>(
         return report(out, name, 0, 0);
     };
     let recorded = number(&mut list);
-    let mut agree = 0;
-    for _ in 0..recorded {
-        let line = number(&mut list);
-        if agrees(&mut list) {
-            agree += 1;
-        } else {
-            writeln!(out, "{name} differs: line {line}")?;
-        }
-    }
+    let agree = agreeing(&mut list, out, name, recorded, agrees)?;
     report(out, name, recorded, agree)
 }
 

@@ -69,6 +69,12 @@ stored_more b o i {v} ho hb e e' =
     rw (e', e, add-one)
     (ap (λ (k : ℕ). set (take i b ++ drop k o) k (get_or b i 0)) (sym (zero-add i)) ∙ paste-suc o 0 b i 0 (omega arith) hb ∙ rw zero-add)
 
+-- .. until the store is full, or the bytes are out
+pub store_full : (b o : List ℕ) (i : ℕ) → i ≡ length o → i ≤ length b → take i b ++ drop i o ≡ take (length o) b ++ drop (length b) o
+store_full b o i e h =
+    ap (λ (l : List ℕ). take i b ++ l) (drop_of_length-le o {i = i} (omega arith) ∙ sym (drop_of_length-le o {i = length b} (omega arith)))
+    ∙ ap (λ (k : ℕ). take k b ++ drop (length b) o) e
+
 pub store_out : (b o : List ℕ) (i : ℕ) → i ≡ length b → i ≤ length o → take i b ++ drop i o ≡ take (length o) b ++ drop (length b) o
 store_out b o i e h =
     ap (λ (l : List ℕ). l ++ drop i o) (take_all i b (omega arith) ∙ sym (take_all (length o) b (omega arith)))

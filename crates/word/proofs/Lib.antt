@@ -1,5 +1,6 @@
 pub mod Bytes
 pub mod Chunk
+pub mod Copied
 pub mod Cut
 pub mod Half
 pub mod Library

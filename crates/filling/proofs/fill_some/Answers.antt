@@ -1,4 +1,4 @@
--- `filling::fill_part` meets its contract: what is left of the segment leads to the same end, and each word is the block's, be it from an address
+-- `filling::fill_some` meets its contract: what is left of the segment leads to the same end, and each word is the block's, be it from an address
 -- block or from the block before. Assumes nothing.
 use mathlib.Core.Path.{sym, ◌∙◌}
 use native.Mathlib.Omega.{arith}
@@ -6,8 +6,8 @@ use borrow.Author.Rules.{rules}
 use Rattle.filling.proofs.Filling.{from_addresses, word_dependent}
 use Rattle.filling.proofs.Inner.{fillable}
 use Rattle.memory.proofs.Loop.{leads_next}
-use Rattle.filling.proofs.fill_part.Goals as goal
-use Rattle.filling.proofs.fill_part.Goals.{in-Some, in-None}
+use Rattle.filling.proofs.fill_some.Goals as goal
+use Rattle.filling.proofs.fill_some.Goals.{in-Some, in-None}
 
 pub fill_with-requires : goal.fill_with-requires
 fill_with-requires c =

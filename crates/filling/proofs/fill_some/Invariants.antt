@@ -1,4 +1,4 @@
--- `filling::fill_part` meets its contract: what is left of the segment leads to the same end, and where the segment takes its words from address
+-- `filling::fill_some` meets its contract: what is left of the segment leads to the same end, and where the segment takes its words from address
 -- blocks, the one that is kept is of the segment. Assumes nothing.
 use mathlib.Core.Bool.{true, false}
 use mathlib.Core.Path.{◌≡◌}
@@ -6,7 +6,7 @@ use Rattle.std.specs.Prelude.{MatchOption}
 use Rattle.address.specs.Address.{addressed}
 use Rattle.filling.specs.Filling.{fill, fill_blocks}
 use Rattle.memory.proofs.Loop.{Leads}
-use Rattle.filling.proofs.fill_part.Given as goal
+use Rattle.filling.proofs.fill_some.Given as goal
 
 abbrev pub invariant-loop-block : goal.invariant-loop-block
 invariant-loop-block l =
